@@ -1,0 +1,10 @@
+pub mod Refusal
+pub mod Setups
+pub mod State
+pub mod Tick
+pub mod Calls
+pub mod Readings
+pub mod Table
+pub mod View
+pub mod Cases
+pub mod Limits

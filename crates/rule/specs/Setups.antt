@@ -1,0 +1,42 @@
+-- Document 01, "Setting up a run", and refusals 1 to 4. Assumes nothing.
+use Prim.Native.Nat.{ℕ}
+use mathlib.Core.Bool.{Bool, cond, not, _&&_, _||_}
+use mathlib.Core.List.{List, [], _∷_}
+use lib.ListN.{length, drop, replicate}
+use lib.Dec.{eqb}
+use Rattle.lists.specs.Lists.{within, zeros}
+use Rattle.rule.specs.Refusal.{Refusal, refuse, first}
+use Rattle.rule.specs.declared.Setup.{Setup}
+
+-- "A setup is a policy (1 priority, 2 round robin), a task count, a slice length and 32 priority bytes."
+abbrev pub asked : ℕ → ℕ → ℕ → List ℕ → Setup
+asked policy count slice priority = record { policy = policy; count = count; slice = slice; priority = priority }
+
+abbrev pub isPriority : Setup → Bool
+isPriority p = eqb (p .policy) 1
+
+abbrev pub isRoundRobin : Setup → Bool
+isRoundRobin p = eqb (p .policy) 2
+
+-- "Priority: the slice is 0 .. Round robin: the slice is 1 to 65,535"
+unfoldable pub sliceFits : Setup → Bool
+sliceFits p = cond (isPriority p) (eqb (p .slice) 0) (within 1 65_535 (p .slice))
+
+-- "Priority: .. the bytes past the count are 0. Round robin: .. all 32 bytes are 0."
+unfoldable pub bytesFit : Setup → Bool
+bytesFit p = eqb (length (p .priority)) 32 && zeros (drop (cond (isPriority p) (p .count) 0) (p .priority))
+
+-- "Setup: 1 to 4 in that order."
+unfoldable pub setupRefusal : Setup → ℕ
+setupRefusal p =
+    first
+    (refuse 1 (not (isPriority p || isRoundRobin p))
+    ∷ refuse 2 (not (within 1 32 (p .count)))
+    ∷ refuse 3 (not (sliceFits p))
+    ∷ refuse 4 (not (bytesFit p))
+    ∷ [])
+
+-- The setup of the run that a refused setup gives: priority, one task (docs/DECISIONS.md, "A refused setup gives one
+-- fixed run").
+abbrev pub plain : Setup
+plain = asked 1 1 0 (replicate 32 0)

@@ -1,0 +1,55 @@
+-- A run as the rule's state, and what a setup and a call promise of the run that they give. Assumes nothing.
+use Prim.Native.Nat.{ℕ, _-_, _≤_}
+use mathlib.Core.Path.{_≡_}
+use mathlib.Core.Bool.{cond}
+use mathlib.Core.List.{List}
+use lib.ListN.{take, drop, length, replicate}
+use lib.Dec.{eqb}
+use Rattle.rule.specs.Setups.{setupRefusal, plain}
+use Rattle.rule.specs.State.{State, fresh}
+use Rattle.rule.specs.Calls.{Call, refusal, call, Made}
+use Rattle.rule.specs.declared.Setup.{Setup}
+use Rattle.rule.specs.declared.Run.{Run}
+
+abbrev pub view : Run → State
+view r =
+    record {
+      setup = r .setup;
+      clock = r .clock;
+      idle = r .idle;
+      used = r .used;
+      queue = take (r .queued) (r .queue);
+      owed = r .owed;
+      given = r .given;
+      done = r .done;
+    }
+
+-- The queue's array holds 0 behind the queue: so a tidy run is fixed by its view.
+pub record Tidy (r : Run) : Type 0 where
+  pub fits : r .queued ≤ 32
+  pub whole : length (r .queue) ≡ 32
+  pub clear : drop (r .queued) (r .queue) ≡ replicate (32 - r .queued) 0
+
+-- "A call may require that the run .. was made by a setup .. and calls on it."
+pub record MadeRun (r : Run) : Type 0 where
+  pub tidy : Tidy r
+  pub made : Made (view r)
+
+-- The run r is tidy and stands for the state s.
+pub record Shows (r : Run) (s : State) : Type 0 where
+  pub tidy : Tidy r
+  pub shown : view r ≡ s
+
+-- A setup's number (0: accepted) and run: the fresh run of the setup, or of `plain` where it is refused.
+pub record Started (p : Setup) (number : ℕ) (r : Run) : Type 0 where
+  pub answer : number ≡ setupRefusal p
+  pub run : Shows r (fresh (cond (eqb (setupRefusal p) 0) p plain))
+
+-- A call's number (0: accepted) and the run afterwards.
+pub record Promised (before : Run) (c : Call) (number : ℕ) (after : Run) : Type 0 where
+  pub answer : number ≡ refusal (view before) c
+  pub run : Shows after (call (view before) c)
+
+-- "Show that no two different outcomes satisfy it."
+abbrev pub Determined {ℓ κ} : {A : Type ℓ} → (A → Type κ) → Type (ℓ ⊔ κ)
+Determined {A = A} P = (x y : A) → P x → P y → x ≡ y
