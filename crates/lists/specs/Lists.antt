@@ -19,10 +19,14 @@ unfoldable pub total : List ℕ → ℕ
 total [] = 0
 total (x ∷ xs) = x + total xs
 
+-- 1 where the two are one number, else 0
+unfoldable pub same : ℕ → ℕ → ℕ
+same k x = cond (eqb k x) 1 0
+
 -- how often k stands in a list
 unfoldable pub times : ℕ → List ℕ → ℕ
 times k [] = 0
-times k (x ∷ xs) = cond (eqb k x) 1 0 + times k xs
+times k (x ∷ xs) = same k x + times k xs
 
 -- a list without k
 unfoldable pub without : ℕ → List ℕ → List ℕ
