@@ -13,7 +13,7 @@ use Rattle.rule.specs.declared.Setup.{Setup}
 pub record Sliced (p : Setup) (used : ℕ) : Type 0 where
   pub some : 0 < p .slice
   pub small : p .slice ≤ 65_535
-  pub used : used ≤ p .slice
+  pub inside : used ≤ p .slice
 
 pub record Sound (s : State) : Type 0 where
   pub few : s .setup .count ≤ 32
