@@ -19,12 +19,12 @@ abbrev pub isRoundRobin : Setup → Bool
 isRoundRobin p = eqb (p .policy) 2
 
 -- "Priority: the slice is 0 .. Round robin: the slice is 1 to 65,535"
-unfoldable pub sliceFits : Setup → Bool
-sliceFits p = cond (isPriority p) (eqb (p .slice) 0) (within 1 65_535 (p .slice))
+unfoldable pub sliceFits : ℕ → ℕ → Bool
+sliceFits policy slice = cond (eqb policy 1) (eqb slice 0) (within 1 65_535 slice)
 
 -- "Priority: .. the bytes past the count are 0. Round robin: .. all 32 bytes are 0."
-unfoldable pub bytesFit : Setup → Bool
-bytesFit p = eqb (length (p .priority)) 32 && zeros (drop (cond (isPriority p) (p .count) 0) (p .priority))
+unfoldable pub bytesFit : ℕ → ℕ → List ℕ → Bool
+bytesFit policy count bytes = eqb (length bytes) 32 && zeros (drop (cond (eqb policy 1) count 0) bytes)
 
 -- "Setup: 1 to 4 in that order."
 unfoldable pub setupRefusal : Setup → ℕ
@@ -32,8 +32,8 @@ setupRefusal p =
     first
     (refuse 1 (not (isPriority p || isRoundRobin p))
     ∷ refuse 2 (not (within 1 32 (p .count)))
-    ∷ refuse 3 (not (sliceFits p))
-    ∷ refuse 4 (not (bytesFit p))
+    ∷ refuse 3 (not (sliceFits (p .policy) (p .slice)))
+    ∷ refuse 4 (not (bytesFit (p .policy) (p .count) (p .priority)))
     ∷ [])
 
 -- The setup of the run that a refused setup gives: priority, one task (docs/DECISIONS.md, "A refused setup gives one

@@ -1,0 +1,20 @@
+-- `setups::slice_fits` meets its contract: the two arms are the two policies. Assumes nothing.
+use borrow.Author.Needs.{needs}
+use borrow.Author.Tests.{eq-eqb, ne-eqb}
+use Rattle.rule.specs.Setups.{sliceFits}
+use Rattle.setups.proofs.slice_fits.Statement.{statement}
+use Rattle.setups.proofs.slice_fits.Tie as tie
+
+returns : tie.Need-returns
+unfolding sliceFits
+returns c = simp (eq-eqb (c .before .args .policy) 1 (c .if1 .taken))
+
+is-within-requires : tie.Need-is-within-requires
+is-within-requires c κs = search needs
+
+returns-2 : tie.Need-returns-2
+unfolding sliceFits
+returns-2 c = simp (ne-eqb (c .before .before .args .policy) 1 (c .before .if1 .left), c .is-within .ensures)
+
+pub slice-fits-spec : {M : Type 1} → statement M
+slice-fits-spec = tie.close (tie.spec returns is-within-requires returns-2)
