@@ -1,0 +1,29 @@
+-- What each case of an answer tells: "a definition gives this paper's number and values for each of its cases". Assumes
+-- nothing.
+use Prim.Native.Nat.{ℕ}
+use Rattle.rule.specs.Readings.{Reading, value, never, refused}
+use Rattle.replay.specs.declared.start.SetupAnswer.{SetupAnswer}
+use Rattle.replay.specs.declared.start.SetupAnswer.the-variants as setup
+use Rattle.replay.specs.declared.readings.TaskTicks.{TaskTicks}
+use Rattle.replay.specs.declared.readings.TaskTicks.the-variants as ticks
+use Rattle.replay.specs.declared.readings.Completion.{Completion}
+use Rattle.replay.specs.declared.readings.Completion.the-variants as completion
+
+-- a setup: its number, 0 where it is accepted
+abbrev pub setupNumber : SetupAnswer → ℕ
+setupNumber setup.Accepted = 0
+setupNumber setup.WrongPolicy = 1
+setupNumber setup.WrongCount = 2
+setupNumber setup.WrongSlice = 3
+setupNumber setup.WrongPriorities = 4
+
+-- ticks of a task
+abbrev pub ticksTold : TaskTicks → Reading
+ticksTold (ticks.Ticks n) = value n
+ticksTold ticks.NoSuchTask = refused 12
+
+-- a task's latest completion
+abbrev pub completionTold : Completion → Reading
+completionTold (completion.At t) = value t
+completionTold completion.Never = never
+completionTold completion.NoSuchTask = refused 12

@@ -1,0 +1,78 @@
+// The readings of a run. Each leaves the run as it is.
+use rule::Run;
+
+ghost use mathlib.Core.Path.{_≡_};
+ghost use Prim.Native.Nat.{_<_, _^_};
+ghost use Rattle.lists.specs.Lists.{total};
+ghost use Rattle.rule.specs.View.{view, MadeRun};
+ghost use Rattle.rule.specs.Readings.{owedOf, givenOf, completedOf};
+ghost use Rattle.replay.specs.Answers.{ticksTold, completionTold};
+
+// Ticks of a task, or refusal 12.
+pub enum TaskTicks {
+    Ticks(u32),
+    NoSuchTask,
+}
+
+// A task's latest completion, or refusal 12.
+pub enum Completion {
+    At(u32),
+    Never,
+    NoSuchTask,
+}
+
+pub fn clock(run: Run) -> u32
+    ensures { λ r. ⌜ r ≡ view run .clock ⌝ }
+{
+    run.clock
+}
+
+// Idle ticks since the start.
+pub fn idle(run: Run) -> u32
+    ensures { λ r. ⌜ r ≡ view run .idle ⌝ }
+{
+    run.idle
+}
+
+// Ticks owed to a task, 0 if it is not open.
+pub fn owed(run: Run, task: u32) -> TaskTicks
+    requires { ⌜ MadeRun run ⌝ }
+    ensures { λ r. ⌜ ticksTold r ≡ owedOf (view run) task ⌝ }
+{
+    let setup = run.setup;
+    if setup.count <= task {
+        return TaskTicks::NoSuchTask;
+    }
+    let k = task as usize;
+    TaskTicks::Ticks(run.owed[k])
+}
+
+// Ticks given to a task since the start.
+pub fn given(run: Run, task: u32) -> TaskTicks
+    requires { ⌜ MadeRun run ⌝ }
+    ensures { λ r. ⌜ ticksTold r ≡ givenOf (view run) task ⌝ }
+{
+    let setup = run.setup;
+    if setup.count <= task {
+        return TaskTicks::NoSuchTask;
+    }
+    let k = task as usize;
+    TaskTicks::Ticks(run.given[k])
+}
+
+// A task's latest completion, which a new request does not erase.
+pub fn completed(run: Run, task: u32) -> Completion
+    requires { ⌜ MadeRun run ⌝ }
+    ensures { λ r. ⌜ completionTold r ≡ completedOf (view run) task ⌝ }
+{
+    let setup = run.setup;
+    if setup.count <= task {
+        return Completion::NoSuchTask;
+    }
+    let k = task as usize;
+    let done = run.done[k];
+    if done == 0 {
+        return Completion::Never;
+    }
+    Completion::At(done)
+}

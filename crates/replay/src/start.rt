@@ -1,0 +1,115 @@
+// Setting up a run.
+use rule::Run;
+
+ghost use mathlib.Core.Path.{_≡_};
+ghost use lib.ListN.{length};
+ghost use Prim.Native.Nat.{_≤_};
+ghost use Rattle.rule.specs.Setups.{asked, setupRefusal, plain};
+ghost use Rattle.rule.specs.State.{fresh};
+ghost use Rattle.rule.specs.View.{Shows, Started};
+ghost use Rattle.replay.specs.Answers.{setupNumber};
+
+pub enum SetupAnswer {
+    Accepted,
+    WrongPolicy,
+    WrongCount,
+    WrongSlice,
+    WrongPriorities,
+}
+
+pub struct Start {
+    pub answer: SetupAnswer,
+    pub run: Run,
+}
+
+// The answer with a number.
+fn answer_of(refusal: u32) -> SetupAnswer
+    requires { ⌜ refusal ≤ 4 ⌝ }
+    ensures { λ r. ⌜ setupNumber r ≡ refusal ⌝ }
+{
+    if refusal == 0 {
+        return SetupAnswer::Accepted;
+    }
+    if refusal == 1 {
+        return SetupAnswer::WrongPolicy;
+    }
+    if refusal == 2 {
+        return SetupAnswer::WrongCount;
+    }
+    if refusal == 3 {
+        return SetupAnswer::WrongSlice;
+    }
+    SetupAnswer::WrongPriorities
+}
+
+// A slice of 32 bytes as an array.
+fn array_of(bytes: &[u8]) -> [u8; 32]
+    requires { ⌜ length (now bytes) ≡ 32 ⌝ }
+    ensures { λ r. ⌜ r ≡ now (bytes .entry) ⌝ }
+{
+    let mut copy = [0u8; 32];
+    let mut i: usize = 0;
+    while i < 32 {
+        copy[i] = bytes[i];
+        i += 1;
+    }
+    copy
+}
+
+// A run with clock 0 on which nothing was asked.
+fn fresh_run(setup: rule::Setup) -> Run
+    ensures { λ r. ⌜ Shows r (fresh setup) ⌝ }
+{
+    Run {
+        setup,
+        clock: 0,
+        idle: 0,
+        used: 0,
+        queued: 0,
+        queue: [0; 32],
+        owed: [0; 32],
+        given: [0; 32],
+        done: [0; 32],
+    }
+}
+
+// The fresh run of a setup that is accepted.
+fn accepted_run(policy: u32, count: u32, slice: u32, priorities: &[u8]) -> Run
+    requires { ⌜ setupRefusal (asked policy count slice (now priorities)) ≡ 0 ⌝ }
+    ensures { λ r. ⌜ Shows r (fresh (asked policy count slice (now (priorities .entry)))) ⌝ }
+{
+    let priority = array_of(priorities);
+    fresh_run(rule::Setup {
+        policy,
+        count,
+        slice,
+        priority,
+    })
+}
+
+// The run of a refused setup: priority, one task.
+fn plain_run() -> Run
+    ensures { λ r. ⌜ Shows r (fresh plain) ⌝ }
+{
+    fresh_run(rule::Setup {
+        policy: 1,
+        count: 1,
+        slice: 0,
+        priority: [0; 32],
+    })
+}
+
+// A fresh run of the setup; a refused setup gives the fresh run of one plain setup. Any numbers and any length of
+// priorities are taken.
+pub fn setup(policy: u32, count: u32, slice: u32, priorities: &[u8]) -> Start
+    ensures { λ r. ⌜ Started (asked policy count slice (now (priorities .entry))) (setupNumber (r .answer)) (r .run) ⌝ }
+{
+    let refusal = setups::setup_refusal(policy, count, slice, priorities);
+    let answer = answer_of(refusal);
+    if refusal != 0 {
+        let run = plain_run();
+        return Start { answer, run };
+    }
+    let run = accepted_run(policy, count, slice, priorities);
+    Start { answer, run }
+}
