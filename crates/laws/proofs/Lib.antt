@@ -1,3 +1,4 @@
 pub mod Ticks
 pub mod Chosen
 pub mod Served
+pub mod Refusals
