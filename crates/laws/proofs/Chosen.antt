@@ -3,15 +3,15 @@
 use Prim.Native.Nat.{ℕ, _+_, _≤_, _<_}
 use native.Mathlib.Nat.{le-refl, le-trans, not-suc-le-zero, le-antisymm}
 use native.Mathlib.Omega.{arith}
-use mathlib.Core.Path.{_≡_, refl, sym, _∙_}
-use mathlib.Core.Bool.{Bool, true, false, cond}
+use mathlib.Core.Path.{_≡_, sym}
+use mathlib.Core.Bool.{true, false}
 use mathlib.Core.List.{List, [], _∷_}
 use lib.ListN.{length}
 use lib.Dec.{ltb}
 use borrow.Author.Tests.{ltb-true, ltb-false}
 use Rattle.lists.specs.Lists.{at, same, times}
-use Rattle.lists.proofs.Testing.{tested, equal-or, cond-true, cond-false, cond-both}
-use Rattle.lists.proofs.Counting.{same-refl, same-equal, same-other, times-head}
+use Rattle.lists.proofs.Testing.{tested, equal-or, cond-false, cond-both}
+use Rattle.lists.proofs.Counting.{same-refl, same-other, times-head}
 use Rattle.rule.specs.Setups.{isPriority}
 use Rattle.rule.specs.Tick.{before, best, chosen}
 use Rattle.rule.specs.declared.Setup.{Setup}

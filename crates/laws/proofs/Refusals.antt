@@ -1,15 +1,16 @@
 -- What it is that a setup or a call is accepted, and what a refusal leaves. In order: setups, advances, requests, demand 1
 -- for the state. Assumes nothing.
-use Prim.Native.Nat.{ℕ, _+_, _-_, _≤_, _<_}
+use Prim.Native.Nat.{ℕ, _+_, _-_, _≤_, zero-le}
+use native.Mathlib.Nat.{le-antisymm}
 use native.Mathlib.Omega.{arith}
-use mathlib.Core.Path.{_≡_, refl, sym, ap, _∙_}
+use mathlib.Core.Path.{_≡_, sym, ap, _∙_}
 use mathlib.Core.Logic.{_⊎_, inl, inr, ⊎-elim, _↔_}
-use mathlib.Core.Bool.{Bool, true, false, cond, not, _&&_, _||_}
+use mathlib.Core.Bool.{true, false, _||_}
 use lib.ListN.{length, drop}
 use lib.Seq.{getD-drop}
-use lib.Dec.{ltb, leb, eqb}
-use borrow.Author.Tests.{eqb-true, eqb-false, ltb-false, leb-false, eq-eqb, ne-eqb, le-ltb, lt-leb}
-use Rattle.lists.specs.Lists.{at, within, zeros}
+use lib.Dec.{eqb}
+use borrow.Author.Tests.{eqb-true, ltb-false, leb-false, eq-eqb, ne-eqb, le-ltb, lt-leb}
+use Rattle.lists.specs.Lists.{at, zeros}
 use Rattle.lists.proofs.Testing.{tested, cond-true, cond-false, and-true, within-true, within-holds, passed, passed-not}
 use Rattle.lists.proofs.Zeros.{zeros-true, zeros-holds}
 use Rattle.rule.specs.Setups.{isPriority, isRoundRobin, sliceFits, bytesFit, setupRefusal}
@@ -116,7 +117,7 @@ request-accepted s t k a e =
       task = leb-false (s .setup .count) k (p3 .0);
       some = amount .0;
       few = amount .1;
-      closed = omega (arith, ltb-false 0 (at (moved s t .owed) k) (p5 .0));
+      closed = le-antisymm (ltb-false 0 (at (moved s t .owed) k) (p5 .0)) zero-le;
     }
 
 pub request-exact : (s : State) (t k a : ℕ) → (requestRefusal s t k a ≡ 0) ↔ Requested s t k a

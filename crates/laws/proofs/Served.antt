@@ -4,18 +4,17 @@ use Prim.Native.Nat.{ℕ, _+_, _-_, _≤_, _<_}
 use native.Mathlib.Omega.{arith}
 use mathlib.Core.Path.{_≡_, refl, sym, ap, _∙_, subst}
 use mathlib.Core.Logic.{_⊎_, inl, inr}
-use mathlib.Core.Bool.{Bool, true, false, cond}
-use mathlib.Core.List.{List, [], _∷_, _++_}
+use mathlib.Core.Bool.{false, cond}
+use mathlib.Core.List.{List, [], _∷_}
 use lib.ListN.{set, length, length-append}
 use lib.Dec.{eqb}
-use borrow.Author.Tests.{eqb-true, eqb-false}
+use borrow.Author.Tests.{eqb-false}
 use Rattle.lists.specs.Lists.{at, times, without}
-use Rattle.lists.proofs.Testing.{tested, equal-or, cond-true, cond-false, cond-both}
+use Rattle.lists.proofs.Testing.{tested, equal-or, cond-both}
 use Rattle.lists.proofs.Counting.{times-cons, times-nil, times-append, times-without-same, times-without-other}
 use Rattle.rule.specs.Setups.{isPriority}
 use Rattle.rule.specs.State.{State}
 use Rattle.rule.specs.Tick.{chosen, overdue, headBack, turn, usedMore, last, give, rest, serve, tickOn, tick}
-use Rattle.rule.specs.declared.Setup.{Setup}
 use Rattle.laws.specs.Sound.{Sliced}
 use Rattle.laws.proofs.Chosen.{chosen-member}
 

@@ -8,7 +8,6 @@ use Rattle.lists.specs.Lists.{total}
 use Rattle.rule.specs.State.{State}
 use Rattle.rule.specs.Tick.{turn, give, rest, serve, tickOn, tick, ticks}
 use Rattle.rule.specs.Calls.{moved, drained}
-use Rattle.rule.specs.declared.Setup.{Setup}
 
 -- ---- one tick
 
