@@ -1,4 +1,5 @@
-pub mod Testing
+pub mod Copying
 pub mod Counting
+pub mod Testing
 pub mod Totals
 pub mod Zeros

@@ -1,16 +1,41 @@
--- Laws of `zeros` from a place on, and of a list that is copied entry by entry. Assumes nothing.
-use Prim.Native.Nat.{ℕ, _+_, _≤_, _<_}
-use mathlib.Core.Path.{_≡_, sym, _∙_}
-use mathlib.Core.Bool.{true, false}
-use mathlib.Core.List.{List}
+-- Laws of `zeros`, the test that every entry of a list is 0: what it says of each entry, and from a place on. Assumes
+-- nothing.
+use Prim.Native.Nat.{ℕ, zero, suc, _+_, _≤_, _<_}
 use native.Mathlib.Omega.{arith}
 use native.Mathlib.Numerals.{add-one}
-use lib.ListN.{length, take, drop, set, length-set, drop-of-length-le}
-use lib.Seq.{drop-cons, take-suc, take-suc-set, take-all}
-use borrow.Author.Tests.{eq-eqb, ne-eqb}
+use mathlib.Core.Path.{_≡_, refl}
+use mathlib.Core.Bool.{true, false, true≢false}
+use mathlib.Core.List.{List, [], _∷_}
+use lib.ListN.{length, drop, drop-of-length-le}
+use lib.Seq.{drop-cons}
+use lib.Dec.{eqb}
+use borrow.Author.Tests.{eqb-true, eqb-false, eq-eqb, ne-eqb}
 use Rattle.lists.specs.Lists.{at, zeros}
+use Rattle.lists.proofs.Testing.{tested, and-true}
 
--- ---- zeros from a place on
+-- ---- each entry
+
+pub zeros-true : (l : List ℕ) (i : ℕ) → zeros l ≡ true → at l i ≡ 0
+unfolding zeros
+zeros-true [] i e = refl
+zeros-true (x ∷ xs) zero e = eqb-true x 0 (and-true (eqb x 0) (zeros xs) e .0)
+zeros-true (x ∷ xs) (suc i) e = zeros-true xs i (and-true (eqb x 0) (zeros xs) e .1)
+
+pub zeros-holds : (l : List ℕ) → ((i : ℕ) → at l i ≡ 0) → zeros l ≡ true
+unfolding zeros
+zeros-holds [] h = refl
+zeros-holds (x ∷ xs) h = rw (eq-eqb x 0 (h 0)) (zeros-holds xs (λ i. h (suc i)))
+
+-- some entry is not 0
+pub zeros-false : (l : List ℕ) → zeros l ≡ false → (i : ℕ) × (0 < at l i)
+unfolding zeros
+zeros-false [] e = absurd (true≢false e)
+zeros-false (x ∷ xs) e =
+    tested (eqb x 0)
+    (λ f. let w = zeros-false xs (rw f at e) in (suc (w .0), w .1))
+    (λ f. (0, omega (arith, eqb-false x 0 f)))
+
+-- ---- from a place on
 
 module _ (l : List ℕ) (i : ℕ) (h : i < length l) where
   pub zeros-other : (at l i ≡ 0 → ⊥) → zeros (drop i l) ≡ false
@@ -24,28 +49,3 @@ module _ (l : List ℕ) (i : ℕ) (h : i < length l) where
 pub zeros-past : (l : List ℕ) (i : ℕ) → length l ≤ i → zeros (drop i l) ≡ true
 unfolding zeros
 zeros-past l i h = rw (drop-of-length-le l h)
-
--- ---- a copy
-
--- the first i entries of l have been copied into a list of the same length n
-pub record Copied (n : ℕ) (l copy : List ℕ) (i : ℕ) : Type 0 where
-  pub inside : i ≤ n
-  pub whole : length copy ≡ n
-  pub front : take i copy ≡ take i l
-
-pub copied-more : (n : ℕ) (l copy : List ℕ) (i : ℕ) → i < n → length l ≡ n → Copied n l copy i
-    → Copied n l (set copy i (at l i)) (i + 1)
-copied-more n l copy i h e c =
-    record {
-      inside = omega arith;
-      whole = length-set copy i (at l i) ∙ c .whole;
-      front = rw (
-        add-one i,
-        take-suc-set copy i (at l i) (omega (arith, c .whole)),
-        take-suc l i 0 (omega arith),
-        c .front,
-      );
-    }
-
-pub copied-all : (n : ℕ) (l copy : List ℕ) (i : ℕ) → n ≤ i → length l ≡ n → Copied n l copy i → copy ≡ l
-copied-all n l copy i h e c = sym (take-all i copy (omega (arith, c .whole))) ∙ c .front ∙ take-all i l (omega arith)

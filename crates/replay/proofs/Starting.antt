@@ -41,7 +41,7 @@ module _ (p : Setup) (n m : ℕ) (e : n ≡ setupRefusal p) (f : m ≡ n) (r : R
       record {
         answer = f ∙ e;
         run =
-          subst (λ (q : Setup). Shows r (fresh q)) (sym (cond-false p plain (ne-eqb (setupRefusal p) 0 (λ y. z (e ∙ y))))) h;
+            subst (λ (q : Setup). Shows r (fresh q)) (sym (cond-false p plain (ne-eqb (setupRefusal p) 0 (λ y. z (e ∙ y))))) h;
       }
 
   pub started-accepted : n ≡ 0 → Shows r (fresh p) → Started p m r
@@ -49,5 +49,5 @@ module _ (p : Setup) (n m : ℕ) (e : n ≡ setupRefusal p) (f : m ≡ n) (r : R
       record {
         answer = f ∙ e;
         run =
-          subst (λ (q : Setup). Shows r (fresh q)) (sym (cond-true p plain (eq-eqb (setupRefusal p) 0 (sym e ∙ z)))) h;
+            subst (λ (q : Setup). Shows r (fresh q)) (sym (cond-true p plain (eq-eqb (setupRefusal p) 0 (sym e ∙ z)))) h;
       }

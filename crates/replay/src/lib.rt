@@ -1,3 +1,3 @@
 // A run by value: setting it up, the calls on it, its readings.
-pub mod start;
 pub mod readings;
+pub mod start;

@@ -1,6 +1,5 @@
 // The readings of a run. Each leaves the run as it is.
 use rule::Run;
-
 ghost use mathlib.Core.Path.{_≡_};
 ghost use Prim.Native.Nat.{_<_, _^_};
 ghost use Rattle.lists.specs.Lists.{total};

@@ -1,6 +1,5 @@
 // Setting up a run.
 use rule::Run;
-
 ghost use mathlib.Core.Path.{_≡_};
 ghost use lib.ListN.{length};
 ghost use Prim.Native.Nat.{_≤_};

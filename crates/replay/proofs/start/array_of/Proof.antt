@@ -2,7 +2,7 @@
 use Prim.Native.Nat.{_-_}
 use mathlib.Core.Path.{refl}
 use native.Mathlib.Omega.{arith}
-use Rattle.lists.proofs.Zeros.{Copied, copied-more, copied-all}
+use Rattle.lists.proofs.Copying.{Copied, copied-more, copied-all}
 use Rattle.replay.proofs.start.array_of.Statement.{statement}
 use Rattle.replay.proofs.start.array_of.Tie as tie
 

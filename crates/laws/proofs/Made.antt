@@ -1,0 +1,165 @@
+-- Calls and setups keep the invariant, so every made state has it. In order: what is open, calls, setups, made states.
+-- Assumes nothing.
+use Prim.Native.Nat.{ℕ, _+_, _≤_, _<_}
+use native.Mathlib.Omega.{arith}
+use mathlib.Core.Path.{_≡_, refl, sym, ap, _∙_, subst}
+use mathlib.Core.Logic.{⊎-elim}
+use mathlib.Core.Bool.{false, true≢false}
+use mathlib.Core.List.{List, [], _∷_, _++_}
+use lib.ListN.{set, length, length-set}
+use lib.Dec.{eqb}
+use borrow.Author.Tests.{eqb-true}
+use Rattle.lists.specs.Lists.{at, total, times}
+use Rattle.lists.proofs.Testing.{tested, equal-or, cond-both}
+use Rattle.lists.proofs.Counting.{same-equal, same-other, times-nil, times-cons, times-head, times-append, times-none, length-once}
+use Rattle.lists.proofs.Totals.{at-replicate, at-set-same, at-set-other, at-le-total, total-zero}
+use Rattle.rule.specs.Setups.{isPriority, setupRefusal}
+use Rattle.rule.specs.State.{State, fresh}
+use Rattle.rule.specs.Calls.{moved, opened, mostAmount, Call, request, advance, drain, refusal, effect, call, calls, Made}
+use Rattle.rule.specs.declared.Setup.{Setup}
+use Rattle.laws.specs.Sound.{Sliced, Sound}
+use Rattle.laws.specs.Accepted.{Taken, Requested}
+use Rattle.laws.proofs.Ticks.{moved-setup, drained-setup}
+use Rattle.laws.proofs.Refusals.{setup-taken, request-accepted, isPriority-true}
+use Rattle.laws.proofs.Sound.{moved-sound, drained-sound}
+
+-- ---- what is open
+
+-- nothing is open exactly where nothing is owed
+pub none-owed : (s : State) → Sound s → s .queue ≡ [] → total (s .owed) ≡ 0
+none-owed s h e = total-zero (s .owed) (λ k. omega (arith, h .queued k, ap (times k) e, times-nil k))
+
+pub none-open : (s : State) → Sound s → total (s .owed) ≡ 0 → s .queue ≡ []
+none-open s h e = times-none (s .queue) (λ k. omega (arith, h .queued k, at-le-total (s .owed) k))
+
+-- somebody is owed a tick where the total is not 0
+pub some-owed : (s : State) → Sound s → 0 < total (s .owed) → (k : ℕ) × (0 < at (s .owed) k)
+some-owed s h n = go (s .queue) refl
+  where
+    go : (q : List ℕ) → s .queue ≡ q → (k : ℕ) × (0 < at (s .owed) k)
+    go [] e = absurd (omega (arith, none-owed s h e))
+    go (k ∷ ks) e = (k, omega (arith, h .queued k, ap (times k) e, times-head k ks))
+
+pub queue-short : (s : State) → Sound s → length (s .queue) ≤ 32
+queue-short s h =
+    length-once 32 (s .queue)
+    (λ k. omega (arith, h .queued k))
+    (λ k l. omega (arith, h .queued k, h .counted k (omega (arith, h .few))))
+
+-- ---- calls
+
+pub opened-sound : (s : State) (k a : ℕ) → Sound s → k < s .setup .count → 0 < a → a ≤ mostAmount → at (s .owed) k ≡ 0
+    → Sound (opened s k a)
+unfolding opened
+opened-sound s k a h c some few z =
+    let inside : k < length (s .owed) = omega (arith, h .few, h .owed32) in
+    let here : (j : ℕ) → j ≡ k → at (set (s .owed) k a) j ≡ a =
+    λ j e. rw e (at-set-same (s .owed) k a inside) in
+    let there : (j : ℕ) → (j ≡ k → ⊥) → at (set (s .owed) k a) j ≡ at (s .owed) j =
+    λ j n. at-set-other (s .owed) k a j n in
+    let one-more : (j : ℕ) → times j (s .queue ++ k ∷ []) ≡ times j (s .queue) + times j (k ∷ []) =
+    λ j. times-append j (s .queue) (k ∷ []) in
+    record {
+      few = h .few;
+      owed32 = simp length-set (h .owed32);
+      given32 = h .given32;
+      done32 = h .done32;
+      sliced = h .sliced;
+      queued = λ j.
+          equal-or j k
+          (λ e. omega (arith, one-more j, times-cons j k [], times-nil j, h .queued j, same-equal j k e, here j e, ap (at (s .owed)) e))
+          (λ n. omega (arith, one-more j, times-cons j k [], times-nil j, h .queued j, same-other j k n, there j n));
+      counted = λ j d. omega (arith, there j (λ e. omega arith), h .counted j d);
+      limit = λ j. equal-or j k (λ e. omega (arith, here j e)) (λ n. omega (arith, there j n, h .limit j));
+      spent = h .spent;
+      past = h .past;
+    }
+
+pub request-sound : (s : State) (t k a : ℕ) → Sound s → Requested s t k a → Sound (opened (moved s t) k a)
+request-sound s t k a h q =
+    opened-sound (moved s t) k a (moved-sound s t h) (rw (moved-setup s t) (q .task)) (q .some) (q .few) (q .closed)
+
+effect-sound : (s : State) (c : Call) → Sound s → refusal s c ≡ 0 → Sound (effect s c)
+unfolding effect refusal
+effect-sound s (request t k a) h e = request-sound s t k a h (request-accepted s t k a e)
+effect-sound s (advance t) h e = moved-sound s t h
+effect-sound s drain h e = drained-sound s h
+
+pub call-sound : (s : State) (c : Call) → Sound s → Sound (call s c)
+unfolding call
+call-sound s c h =
+    tested (eqb (refusal s c) 0)
+    (λ e. rw e (effect-sound s c h (eqb-true (refusal s c) 0 e)))
+    (λ e. rw e h)
+
+pub calls-sound : (s : State) (cs : List Call) → Sound s → Sound (calls s cs)
+unfolding calls
+calls-sound s [] h = h
+calls-sound s (c ∷ cs) h = calls-sound (call s c) cs (call-sound s c h)
+
+effect-setup : (s : State) (c : Call) → effect s c .setup ≡ s .setup
+unfolding effect opened
+effect-setup s (request t k a) = moved-setup s t
+effect-setup s (advance t) = moved-setup s t
+effect-setup s drain = drained-setup s
+
+pub call-setup : (s : State) (c : Call) → call s c .setup ≡ s .setup
+unfolding call
+call-setup s c =
+    cond-both (λ (r : State). r .setup ≡ s .setup) (eqb (refusal s c) 0) (effect s c) s (effect-setup s c) refl
+
+pub calls-setup : (s : State) (cs : List Call) → calls s cs .setup ≡ s .setup
+unfolding calls
+calls-setup s [] = refl
+calls-setup s (c ∷ cs) = calls-setup (call s c) cs ∙ call-setup s c
+
+-- ---- setups
+
+taken-sliced : (p : Setup) → Taken p → isPriority p ≡ false → Sliced p 0
+taken-sliced p h e =
+    ⊎-elim
+    (λ f. absurd (true≢false (sym (isPriority-true p f) ∙ e)))
+    (λ f. record { some = h .sliced f .0; small = h .sliced f .1; inside = omega arith })
+    (h .policy)
+
+pub fresh-sound : (p : Setup) → setupRefusal p ≡ 0 → Sound (fresh p)
+unfolding total
+fresh-sound p e =
+    let h = setup-taken p e in
+    record {
+      few = h .few;
+      owed32 = refl;
+      given32 = refl;
+      done32 = refl;
+      sliced = taken-sliced p h;
+      queued = λ k. omega (arith, times-nil k, at-replicate 32 k);
+      counted = λ k c. at-replicate 32 k;
+      limit = λ k. omega (arith, at-replicate 32 k);
+      spent = refl;
+      past = λ k. omega (arith, at-replicate 32 k);
+    }
+
+-- ---- made states
+
+pub made-sound : (s : State) → Made s → Sound s
+made-sound s m =
+    subst Sound (m .reached) (calls-sound (fresh (m .from)) (m .sequence) (fresh-sound (m .from) (m .taken)))
+
+pub made-fresh : (p : Setup) → setupRefusal p ≡ 0 → Made (fresh p)
+unfolding calls
+made-fresh p e = record { from = p; taken = e; sequence = []; reached = refl }
+
+pub calls-append : (s : State) (cs ds : List Call) → calls s (cs ++ ds) ≡ calls (calls s cs) ds
+unfolding calls
+calls-append s [] ds = refl
+calls-append s (c ∷ cs) ds = calls-append (call s c) cs ds
+
+pub made-call : (s : State) (c : Call) → Made s → Made (call s c)
+unfolding calls
+made-call s c m =
+    record {
+      from = m .from;
+      taken = m .taken;
+      sequence = m .sequence ++ c ∷ [];
+      reached = calls-append (fresh (m .from)) (m .sequence) (c ∷ []) ∙ ap (λ (r : State). call r c) (m .reached);
+    }
