@@ -1,5 +1,5 @@
--- Laws of setups for `start::setup`: what an accepted setup has, that numbers are at most 4, and the two ways in which a
--- setup is answered. Assumes nothing.
+-- Laws of setups and made runs that the functions here cite: a setup's number is at most 4, the two ways in which a setup is
+-- answered, and that a made run counts at most 32 tasks. Assumes nothing.
 use Prim.Native.Nat.{ℕ, _≤_}
 use native.Mathlib.Omega.{arith}
 use mathlib.Core.Path.{_≡_, sym, _∙_, subst}
@@ -11,18 +11,10 @@ use Rattle.lists.specs.Lists.{within}
 use Rattle.lists.proofs.Testing.{cond-true, cond-false, cond-both, and-true, passed-not}
 use Rattle.rule.specs.Setups.{isPriority, isRoundRobin, sliceFits, bytesFit, setupRefusal, plain}
 use Rattle.rule.specs.State.{fresh}
-use Rattle.rule.specs.View.{Shows, Started}
+use Rattle.rule.specs.View.{view, MadeRun, Shows, Started}
 use Rattle.rule.specs.declared.Setup.{Setup}
 use Rattle.rule.specs.declared.Run.{Run}
-
-pub setup-bytes : (p : Setup) → setupRefusal p ≡ 0 → length (p .priority) ≡ 32
-unfolding setupRefusal bytesFit
-setup-bytes p e =
-    let p1 = passed-not (isPriority p || isRoundRobin p) 0 _ e in
-    let p2 = passed-not (within 1 32 (p .count)) 1 _ (p1 .1) in
-    let p3 = passed-not (sliceFits (p .policy) (p .slice)) 2 _ (p2 .1) in
-    let p4 = passed-not (bytesFit (p .policy) (p .count) (p .priority)) 3 _ (p3 .1) in
-    eqb-true (length (p .priority)) 32 (and-true _ _ (p4 .0) .0)
+use Rattle.laws.proofs.Made.{made-sound}
 
 pub setup-small : (p : Setup) → setupRefusal p ≤ 4
 unfolding setupRefusal
@@ -51,3 +43,6 @@ module _ (p : Setup) (n m : ℕ) (e : n ≡ setupRefusal p) (f : m ≡ n) (r : R
         run =
             subst (λ (q : Setup). Shows r (fresh q)) (sym (cond-true p plain (eq-eqb (setupRefusal p) 0 (sym e ∙ z)))) h;
       }
+
+pub made-few : (r : Run) → MadeRun r → r .setup .count ≤ 32
+made-few r m = made-sound (view r) (m .made) .few

@@ -1,10 +1,12 @@
 // The readings of a run. Each leaves the run as it is.
 use rule::Run;
 ghost use mathlib.Core.Path.{_≡_};
-ghost use Prim.Native.Nat.{_<_, _^_};
-ghost use Rattle.lists.specs.Lists.{total};
+ghost use Prim.Native.Nat.{_≤_};
+ghost use mathlib.Core.Bool.{cond};
+ghost use lib.Dec.{leb, eqb};
+ghost use Rattle.lists.specs.Lists.{at};
 ghost use Rattle.rule.specs.View.{view, MadeRun};
-ghost use Rattle.rule.specs.Readings.{owedOf, givenOf, completedOf};
+ghost use Rattle.rule.specs.Readings.{value, never, refused, owedOf, givenOf, completedOf};
 ghost use Rattle.replay.specs.Answers.{ticksTold, completionTold};
 
 // Ticks of a task, or refusal 12.
@@ -33,17 +35,26 @@ pub fn idle(run: Run) -> u32
     run.idle
 }
 
+// A task's entry of a column, refused where the task is not counted.
+fn entry_of(count: u32, column: [u32; 32], task: u32) -> TaskTicks
+    requires { ⌜ count ≤ 32 ⌝ }
+    ensures { λ r. ⌜ ticksTold r ≡ cond (leb count task) (refused 12) (value (at column task)) ⌝ }
+{
+    if count <= task {
+        return TaskTicks::NoSuchTask;
+    }
+    let k = task as usize;
+    TaskTicks::Ticks(column[k])
+}
+
 // Ticks owed to a task, 0 if it is not open.
 pub fn owed(run: Run, task: u32) -> TaskTicks
     requires { ⌜ MadeRun run ⌝ }
     ensures { λ r. ⌜ ticksTold r ≡ owedOf (view run) task ⌝ }
 {
     let setup = run.setup;
-    if setup.count <= task {
-        return TaskTicks::NoSuchTask;
-    }
-    let k = task as usize;
-    TaskTicks::Ticks(run.owed[k])
+    let column = run.owed;
+    entry_of(setup.count, column, task)
 }
 
 // Ticks given to a task since the start.
@@ -52,11 +63,17 @@ pub fn given(run: Run, task: u32) -> TaskTicks
     ensures { λ r. ⌜ ticksTold r ≡ givenOf (view run) task ⌝ }
 {
     let setup = run.setup;
-    if setup.count <= task {
-        return TaskTicks::NoSuchTask;
+    let column = run.given;
+    entry_of(setup.count, column, task)
+}
+
+fn completion_at(done: u32) -> Completion
+    ensures { λ r. ⌜ completionTold r ≡ cond (eqb done 0) never (value done) ⌝ }
+{
+    if done == 0 {
+        return Completion::Never;
     }
-    let k = task as usize;
-    TaskTicks::Ticks(run.given[k])
+    Completion::At(done)
 }
 
 // A task's latest completion, which a new request does not erase.
@@ -65,13 +82,10 @@ pub fn completed(run: Run, task: u32) -> Completion
     ensures { λ r. ⌜ completionTold r ≡ completedOf (view run) task ⌝ }
 {
     let setup = run.setup;
+    let column = run.done;
     if setup.count <= task {
         return Completion::NoSuchTask;
     }
     let k = task as usize;
-    let done = run.done[k];
-    if done == 0 {
-        return Completion::Never;
-    }
-    Completion::At(done)
+    completion_at(column[k])
 }

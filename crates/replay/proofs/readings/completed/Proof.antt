@@ -1,28 +1,27 @@
+-- `replay::readings::completed` meets its contract: a made run counts at most 32 tasks. Assumes nothing.
+use native.Mathlib.Omega.{arith}
 use borrow.Author.Needs.{needs}
+use borrow.Author.Tests.{le-leb, lt-leb}
+use Rattle.replay.proofs.Starting.{made-few}
 use Rattle.replay.proofs.readings.completed.Statement.{statement}
 use Rattle.replay.proofs.readings.completed.Tie as tie
-use Rattle.replay.proofs.readings.completed.Reads as reads
-use Rattle.replay.proofs.readings.completed.Lts as lts
 
--- src/readings.rt:70:9
 returns : tie.Need-returns
-returns c = ?
+returns c = simp (le-leb _ _ (c .if1 .taken))
 
--- src/readings.rt:73:16
-mul-done : tie.Need-mul-done
-mul-done c = search needs
+mul-completion-at : tie.Need-mul-completion-at
+mul-completion-at c = search needs
 
--- src/readings.rt:73:16
-element-copy-out-done : tie.Need-element-copy-out-done
-element-copy-out-done c = ?
+array-read-completion-at : tie.Need-array-read-completion-at
+array-read-completion-at c = omega (arith, made-few _ (c .before .before .before .before .pre))
 
--- src/readings.rt:75:9
+completion-at-requires : tie.Need-completion-at-requires
+completion-at-requires c κs = search needs
+
 returns-2 : tie.Need-returns-2
-returns-2 c = ?
-
--- src/readings.rt:64:1
-returns-3 : tie.Need-returns-3
-returns-3 c = ?
+returns-2 c = simp (lt-leb _ _ (c .before .if1 .left)) (c .completion-at .ensures)
 
 pub completed-spec : {M : Type 1} → statement M
-completed-spec = tie.close (tie.spec returns mul-done element-copy-out-done returns-2 returns-3)
+completed-spec =
+    tie.close
+    (tie.spec returns mul-completion-at array-read-completion-at completion-at-requires returns-2)

@@ -1,24 +1,14 @@
+-- `replay::readings::owed` meets its contract: a made run counts at most 32 tasks. Assumes nothing.
 use borrow.Author.Needs.{needs}
+use Rattle.replay.proofs.Starting.{made-few}
 use Rattle.replay.proofs.readings.owed.Statement.{statement}
 use Rattle.replay.proofs.readings.owed.Tie as tie
-use Rattle.replay.proofs.readings.owed.Reads as reads
-use Rattle.replay.proofs.readings.owed.Lts as lts
 
--- src/readings.rt:44:9
+entry-of-requires : tie.Need-entry-of-requires
+entry-of-requires c κs = made-few _ (c .before .before .pre)
+
 returns : tie.Need-returns
-returns c = ?
-
--- src/readings.rt:47:22
-mul-t7 : tie.Need-mul-t7
-mul-t7 c = search needs
-
--- src/readings.rt:47:22
-element-copy-out-t10 : tie.Need-element-copy-out-t10
-element-copy-out-t10 c = ?
-
--- src/readings.rt:38:1
-returns-2 : tie.Need-returns-2
-returns-2 c = ?
+returns c = search needs
 
 pub owed-spec : {M : Type 1} → statement M
-owed-spec = tie.close (tie.spec returns mul-t7 element-copy-out-t10 returns-2)
+owed-spec = tie.close (tie.spec entry-of-requires returns)

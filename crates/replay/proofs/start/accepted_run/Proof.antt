@@ -9,7 +9,7 @@ use Rattle.rule.specs.Setups.{asked}
 use Rattle.rule.specs.State.{fresh}
 use Rattle.rule.specs.View.{Shows}
 use Rattle.rule.specs.declared.Setup.{Setup}
-use Rattle.replay.proofs.Starting.{setup-bytes}
+use Rattle.laws.proofs.Refusals.{setup-taken}
 use Rattle.replay.proofs.start.accepted_run.Statement.{statement}
 use Rattle.replay.proofs.start.accepted_run.Tie as tie
 
@@ -18,7 +18,7 @@ abbrev with : tie.Start → List ℕ → Setup
 with c l = asked (c .args .policy) (c .args .count) (c .args .slice) l
 
 array-of-requires : tie.Need-array-of-requires
-array-of-requires c κs = setup-bytes (with (c .before) (now (c .before .args .priorities))) (c .before .pre)
+array-of-requires c κs = setup-taken (with (c .before) (now (c .before .args .priorities))) (c .before .pre) .bytes
 
 fresh-run-requires : tie.Need-fresh-run-requires
 fresh-run-requires c κs = search needs
