@@ -1,0 +1,108 @@
+// The calls on a run: request, advance, drain. A refused call gives back the very run.
+use rule::Run;
+
+ghost use mathlib.Core.Path.{_≡_};
+ghost use Prim.Native.Nat.{_≤_};
+ghost use Rattle.rule.specs.Calls.{moved, request, advance, drain};
+ghost use Rattle.rule.specs.View.{view, Tidy, MadeRun, Shows, Promised};
+ghost use Rattle.laws.specs.Sound.{Sound};
+ghost use Rattle.replay.specs.Answers.{callNumber, Called};
+
+pub enum CallAnswer {
+    Accepted,
+    TimePastLimit,
+    TimeBeforeClock,
+    NoSuchTask,
+    WrongAmount,
+    StillOpen,
+}
+
+pub struct Moved {
+    pub answer: CallAnswer,
+    pub run: Run,
+}
+
+// The answer with a number.
+fn answer_of(refusal: u32) -> CallAnswer
+    requires { ⌜ Called refusal ⌝ }
+    ensures { λ r. ⌜ callNumber r ≡ refusal ⌝ }
+{
+    if refusal == 0 {
+        return CallAnswer::Accepted;
+    }
+    if refusal == 10 {
+        return CallAnswer::TimePastLimit;
+    }
+    if refusal == 11 {
+        return CallAnswer::TimeBeforeClock;
+    }
+    if refusal == 12 {
+        return CallAnswer::NoSuchTask;
+    }
+    if refusal == 13 {
+        return CallAnswer::WrongAmount;
+    }
+    CallAnswer::StillOpen
+}
+
+// The clock moves to a time that is not before it.
+fn moved_to(run: Run, time: u32) -> Run
+    requires { ⌜ Tidy run ⌝ }
+    requires { ⌜ Sound (view run) ⌝ }
+    requires { ⌜ run .clock ≤ time ⌝ }
+    requires { ⌜ time ≤ 4_032_000_000 ⌝ }
+    ensures { λ r. ⌜ Shows r (moved (view run) time) ⌝ }
+{
+    let s = run.setup;
+    let mut queue = run.queue;
+    let mut owed = run.owed;
+    let mut given = run.given;
+    let mut done = run.done;
+    let c = engine::cursor_of(run);
+    let cursor = engine::walk(s, c, time, &mut queue, &mut owed, &mut given, &mut done);
+    engine::run_of(s, cursor, &queue, &owed, &given, &done)
+}
+
+// Moves the clock to the time and opens the task.
+pub fn request(run: Run, time: u32, task: u32, amount: u32) -> Moved
+    requires { ⌜ MadeRun run ⌝ }
+    ensures { λ r. ⌜ Promised run (request time task amount) (callNumber (r .answer)) (r .run) ⌝ }
+{
+    let s = run.setup;
+    let mut queue = run.queue;
+    let mut owed = run.owed;
+    let mut given = run.given;
+    let mut done = run.done;
+    let c = engine::cursor_of(run);
+    let asked = engine::ask(s, c, time, task, amount, &mut queue, &mut owed, &mut given, &mut done);
+    let answer = answer_of(asked.refusal);
+    if asked.refusal != 0 {
+        return Moved { answer, run };
+    }
+    let after = engine::run_of(s, asked.cursor, &queue, &owed, &given, &done);
+    Moved { answer, run: after }
+}
+
+// Moves the clock to the time.
+pub fn advance(run: Run, time: u32) -> Moved
+    requires { ⌜ MadeRun run ⌝ }
+    ensures { λ r. ⌜ Promised run (advance time) (callNumber (r .answer)) (r .run) ⌝ }
+{
+    if 4_000_000_000 < time {
+        return Moved { answer: CallAnswer::TimePastLimit, run };
+    }
+    if time < run.clock {
+        return Moved { answer: CallAnswer::TimeBeforeClock, run };
+    }
+    let after = moved_to(run, time);
+    Moved { answer: CallAnswer::Accepted, run: after }
+}
+
+// Moves the clock to the first instant at which nothing is open. It is never refused.
+pub fn drain(run: Run) -> Run
+    requires { ⌜ MadeRun run ⌝ }
+    ensures { λ r. ⌜ Promised run drain 0 r ⌝ }
+{
+    let left = super::readings::total_owed(run);
+    moved_to(run, run.clock + left)
+}

@@ -1,0 +1,1 @@
+// The table run over columns.
