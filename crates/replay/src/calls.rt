@@ -1,6 +1,5 @@
 // The calls on a run: request, advance, drain. A refused call gives back the very run.
 use rule::Run;
-
 ghost use mathlib.Core.Path.{_≡_};
 ghost use Prim.Native.Nat.{_≤_};
 ghost use Rattle.rule.specs.Calls.{moved, request, advance, drain};
@@ -74,7 +73,17 @@ pub fn request(run: Run, time: u32, task: u32, amount: u32) -> Moved
     let mut given = run.given;
     let mut done = run.done;
     let c = engine::cursor_of(run);
-    let asked = engine::ask(s, c, time, task, amount, &mut queue, &mut owed, &mut given, &mut done);
+    let asked = engine::ask(
+        s,
+        c,
+        time,
+        task,
+        amount,
+        &mut queue,
+        &mut owed,
+        &mut given,
+        &mut done,
+    );
     let answer = answer_of(asked.refusal);
     if asked.refusal != 0 {
         return Moved { answer, run };
@@ -89,13 +98,22 @@ pub fn advance(run: Run, time: u32) -> Moved
     ensures { λ r. ⌜ Promised run (advance time) (callNumber (r .answer)) (r .run) ⌝ }
 {
     if 4_000_000_000 < time {
-        return Moved { answer: CallAnswer::TimePastLimit, run };
+        return Moved {
+            answer: CallAnswer::TimePastLimit,
+            run,
+        };
     }
     if time < run.clock {
-        return Moved { answer: CallAnswer::TimeBeforeClock, run };
+        return Moved {
+            answer: CallAnswer::TimeBeforeClock,
+            run,
+        };
     }
     let after = moved_to(run, time);
-    Moved { answer: CallAnswer::Accepted, run: after }
+    Moved {
+        answer: CallAnswer::Accepted,
+        run: after,
+    }
 }
 
 // Moves the clock to the first instant at which nothing is open. It is never refused.

@@ -1,0 +1,132 @@
+// Text in a buffer that the caller lends. Each function puts its text at `at` and answers the place just past it.
+ghost use mathlib.Core.Path.{_≡_};
+ghost use Prim.Native.Nat.{_+_, _*_, _≤_, _<_};
+ghost use mathlib.Core.List.{[], _∷_, _++_};
+ghost use lib.ListN.{length};
+ghost use Rattle.text.specs.Text.{digits, decimal, rowLine, rowLines, endLine, tableText, refusedLine};
+ghost use Rattle.text.specs.Writes.{Wrote, WroteUpTo, Columns};
+
+fn put_byte(out: &mut [u8], at: usize, b: u8) -> usize
+    requires { ⌜ at < length (now out) ⌝ }
+    ensures { λ r. ⌜ Wrote (now (out .entry)) (now (out .exit)) at (b ∷ []) r ⌝ }
+{
+    out[at] = b;
+    at + 1
+}
+
+// The decimal digits of n, at most `left` of them.
+fn put_decimal(out: &mut [u8], at: usize, n: u32, left: usize) -> usize
+    requires { ⌜ at + left ≤ length (now out) ⌝ }
+    ensures { λ r. ⌜ WroteUpTo left (now (out .entry)) (now (out .exit)) at (digits left n) r ⌝ }
+{
+    if left == 0 {
+        return at;
+    }
+    if n < 10 {
+        return put_byte(out, at, 48 + n as u8);
+    }
+    let p = put_decimal(out, at, n / 10, left - 1);
+    put_byte(out, p, 48 + (n % 10) as u8)
+}
+
+// The bytes of s.
+fn put_all(out: &mut [u8], at: usize, s: &[u8]) -> usize
+    requires { ⌜ at + length (now s) ≤ length (now out) ⌝ }
+    ensures { λ r. ⌜ Wrote (now (out .entry)) (now (out .exit)) at (now (s .entry)) r ⌝ }
+{
+    let mut i = 0;
+    while i < s.len() {
+        out[at + i] = s[i];
+        i += 1;
+    }
+    at + s.len()
+}
+
+// A number, and a byte after it.
+fn put_cell(out: &mut [u8], at: usize, n: u32, b: u8) -> usize
+    requires { ⌜ at + 11 ≤ length (now out) ⌝ }
+    ensures { λ r. ⌜ WroteUpTo 11 (now (out .entry)) (now (out .exit)) at (decimal n ++ b ∷ []) r ⌝ }
+{
+    let p = put_decimal(out, at, n, 10);
+    put_byte(out, p, b)
+}
+
+// The line of a row.
+fn put_row(
+    out: &mut [u8],
+    at: usize,
+    row: u32,
+    task: u32,
+    asked: u32,
+    amount: u32,
+    done: u32,
+) -> usize
+    requires { ⌜ at + 55 ≤ length (now out) ⌝ }
+    ensures { λ r. ⌜ WroteUpTo 55 (now (out .entry)) (now (out .exit)) at (rowLine row task asked amount done) r ⌝ }
+{
+    let a = put_cell(out, at, row, b' ');
+    let b = put_cell(out, a, task, b' ');
+    let c = put_cell(out, b, asked, b' ');
+    let d = put_cell(out, c, amount, b' ');
+    put_cell(out, d, done, b'\n')
+}
+
+// The lines of all rows, counted from 1.
+fn put_rows(
+    out: &mut [u8],
+    at: usize,
+    tasks: &[u32],
+    asked: &[u32],
+    amounts: &[u32],
+    done: &[u32],
+) -> usize
+    requires { ⌜ Columns (now tasks) (now asked) (now amounts) (now done) ⌝ }
+    requires { ⌜ at + 55 * length (now tasks) ≤ length (now out) ⌝ }
+    ensures { λ r. ⌜ WroteUpTo (55 * length (now (tasks .entry))) (now (out .entry)) (now (out .exit)) at (rowLines (now (tasks .entry)) (now (asked .entry)) (now (amounts .entry)) (now (done .entry)) (length (now (tasks .entry)))) r ⌝ }
+{
+    let mut p = at;
+    let mut i: u32 = 0;
+    let n = tasks.len() as u32;
+    while i < n {
+        let k = i as usize;
+        p = put_row(out, p, i + 1, tasks[k], asked[k], amounts[k], done[k]);
+        i += 1;
+    }
+    p
+}
+
+// The line of the end.
+fn put_end(out: &mut [u8], at: usize, end: u32) -> usize
+    requires { ⌜ at + 15 ≤ length (now out) ⌝ }
+    ensures { λ r. ⌜ WroteUpTo 15 (now (out .entry)) (now (out .exit)) at (endLine end) r ⌝ }
+{
+    let a = put_all(out, at, b"end ");
+    put_cell(out, a, end, b'\n')
+}
+
+// All that is printed of a table, at the start of a buffer that has room for it.
+pub fn put_table(
+    tasks: &[u32],
+    asked: &[u32],
+    amounts: &[u32],
+    done: &[u32],
+    end: u32,
+    out: &mut [u8; 65536],
+) -> usize
+    requires { ⌜ Columns (now tasks) (now asked) (now amounts) (now done) ⌝ }
+    ensures { λ r. ⌜ WroteUpTo 65_536 (now (out .entry)) (now (out .exit)) 0 (tableText (now (tasks .entry)) (now (asked .entry)) (now (amounts .entry)) (now (done .entry)) end) r ⌝ }
+{
+    let a = put_all(out, 0, b"row task asked amount done\n");
+    let b = put_rows(out, a, tasks, asked, amounts, done);
+    put_end(out, b, end)
+}
+
+// The one line of a refusal, at the start of the buffer.
+pub fn put_refused(n: u32, p: u32, out: &mut [u8; 65536]) -> usize
+    ensures { λ r. ⌜ WroteUpTo 65_536 (now (out .entry)) (now (out .exit)) 0 (refusedLine n p) r ⌝ }
+{
+    let a = put_all(out, 0, b"refused ");
+    let b = put_cell(out, a, n, b' ');
+    let c = put_all(out, b, b"at ");
+    put_cell(out, c, p, b'\n')
+}
