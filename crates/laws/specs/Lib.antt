@@ -1,3 +1,4 @@
 pub mod Sound
 pub mod Foremost
 pub mod Accepted
+pub mod Reasons

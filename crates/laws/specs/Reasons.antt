@@ -1,0 +1,65 @@
+-- Document 01, "Refusal numbers", as facts: for a setup and each call the list of its refusals, in the order in which they are
+-- judged, each number beside what it is "given exactly when". The rule's tests mean these (`setup-judged`, `request-judged`,
+-- `advance-judged`). Assumes nothing.
+use Prim.Native.Nat.{ℕ, _≤_, _<_}
+use mathlib.Core.Path.{_≡_}
+use mathlib.Core.Logic.{_⊎_}
+use mathlib.Core.List.{List, [], _∷_}
+use lib.ListN.{length}
+use Rattle.lists.specs.Lists.{at}
+use Rattle.rule.specs.State.{State}
+use Rattle.rule.specs.Calls.{moved, lastTime, mostAmount, Call, request, advance, drain}
+use Rattle.rule.specs.declared.Setup.{Setup}
+use Rattle.laws.specs.Accepted.{clearFrom}
+
+-- "No." and "Given exactly when"
+pub record Reason : Type 1 where
+  pub number : ℕ
+  pub when : Type 0
+
+abbrev pub reason : ℕ → Type 0 → Reason
+reason n P = record { number = n; when = P }
+
+-- "Where several hold, only the first in these orders is given." n is the number of a reason that holds while none before
+-- it does, and 0 where none holds.
+unfoldable pub Judged : List Reason → ℕ → Type 0
+Judged [] n = n ≡ 0
+Judged (r ∷ rs) n = (r .when × (n ≡ r .number)) ⊎ ((r .when → ⊥) × Judged rs n)
+
+-- ---- the lists
+
+-- "Setup: 1 to 4 in that order."
+abbrev pub setupReasons : Setup → List Reason
+setupReasons p =
+    reason 1 ((p .policy ≡ 1 → ⊥) × (p .policy ≡ 2 → ⊥))
+    ∷ reason 2 ((p .count ≡ 0) ⊎ (32 < p .count))
+    ∷ reason 3
+          (((p .policy ≡ 1) × (0 < p .slice))
+          ⊎ ((p .policy ≡ 2) × ((p .slice ≡ 0) ⊎ (65_535 < p .slice))))
+    ∷ reason 4
+          ((length (p .priority) ≡ 32 → ⊥)
+          ⊎ ((i : ℕ) × (clearFrom p ≤ i) × (0 < at (p .priority) i)))
+    ∷ []
+
+-- "Advance: 10, 11."
+abbrev pub advanceReasons : State → ℕ → List Reason
+advanceReasons s t =
+    reason 10 (lastTime < t)
+    ∷ reason 11 (t < s .clock)
+    ∷ []
+
+-- "Request: 10, 11, 12, 13, 14."
+abbrev pub requestReasons : State → ℕ → ℕ → ℕ → List Reason
+requestReasons s t k a =
+    reason 10 (lastTime < t)
+    ∷ reason 11 (t < s .clock)
+    ∷ reason 12 (s .setup .count ≤ k)
+    ∷ reason 13 ((a ≡ 0) ⊎ (mostAmount < a))
+    ∷ reason 14 (0 < at (moved s t .owed) k)
+    ∷ []
+
+-- "Drain .. is never refused."
+unfoldable pub reasons : State → Call → List Reason
+reasons s (request t k a) = requestReasons s t k a
+reasons s (advance t) = advanceReasons s t
+reasons s drain = []
