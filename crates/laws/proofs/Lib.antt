@@ -5,3 +5,5 @@ pub mod Refusals
 pub mod Judged
 pub mod Sound
 pub mod Made
+pub mod Counts
+pub mod Demand3

@@ -2,3 +2,4 @@ pub mod Sound
 pub mod Foremost
 pub mod Accepted
 pub mod Reasons
+pub mod Backlog
