@@ -7,3 +7,4 @@ pub mod Sound
 pub mod Made
 pub mod Counts
 pub mod Demand3
+pub mod Drain

@@ -3,3 +3,4 @@ pub mod Foremost
 pub mod Accepted
 pub mod Reasons
 pub mod Backlog
+pub mod Drains
