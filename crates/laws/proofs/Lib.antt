@@ -8,3 +8,4 @@ pub mod Made
 pub mod Counts
 pub mod Demand3
 pub mod Drain
+pub mod Looking

@@ -4,3 +4,5 @@ pub mod Accepted
 pub mod Reasons
 pub mod Backlog
 pub mod Drains
+pub mod Sequences
+pub mod Looks
