@@ -15,7 +15,7 @@ use Rattle.rule.specs.Tick.{rest, tick, ticks}
 use Rattle.rule.specs.Calls.{moved, drained, opened, lastTime, mostAmount, Call, request, advance, drain, advanceRefusal, requestRefusal, refusal, effect, call, calls, Made}
 use Rattle.laws.specs.Sound.{Sound}
 use Rattle.laws.specs.Drains.{Drains, lastClock}
-use Rattle.laws.proofs.Ticks.{ticks-clock, moved-clock, drained-clock}
+use Rattle.laws.proofs.Ticks.{moved-clock, drained-clock}
 use Rattle.laws.proofs.Served.{ticked}
 use Rattle.laws.proofs.Refusals.{request-accepted, advance-accepted}
 use Rattle.laws.proofs.Sound.{owed-total, tick-sound, ticks-sound}

@@ -9,3 +9,5 @@ pub mod Counts
 pub mod Demand3
 pub mod Drain
 pub mod Looking
+pub mod Closing
+pub mod Completion

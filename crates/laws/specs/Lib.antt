@@ -6,3 +6,4 @@ pub mod Backlog
 pub mod Drains
 pub mod Sequences
 pub mod Looks
+pub mod During
