@@ -47,6 +47,11 @@ module _ (s : State) (k : ℕ) (h : Sound s) where
       (omega (arith, down), done-other s (tick s) i h v k (λ e. omega (arith, down, same-equal k i e))))
       (ticked s)
 
+  -- so a task that is open after the tick was open before
+  pub tick-opened : 0 < at (tick s .owed) k → 0 < at (s .owed) k
+  tick-opened o =
+      equal-or (at (s .owed) k) 0 (λ z. absurd (omega (arith, tick-closed z .0))) (λ n. omega arith)
+
 -- ---- ticks
 
 pub ticks-closed : (n : ℕ) (s : State) (k : ℕ) → Sound s → at (s .owed) k ≡ 0

@@ -11,3 +11,4 @@ pub mod Drain
 pub mod Looking
 pub mod Closing
 pub mod Completion
+pub mod Soonest

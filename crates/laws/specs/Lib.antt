@@ -7,3 +7,4 @@ pub mod Drains
 pub mod Sequences
 pub mod Looks
 pub mod During
+pub mod Next
