@@ -1,10 +1,10 @@
 -- Demand 1's numbers: a setup and a call are refused exactly when the listed reason holds and none before it does, and
 -- accepted where none holds. In order: one more reason, the tests of a setup, the lists. Assumes nothing.
-use Prim.Native.Nat.{ℕ, _+_, _-_, _≤_, _<_}
+use Prim.Native.Nat.{ℕ, suc, _+_, _-_, _≤_, _<_}
 use native.Mathlib.Omega.{arith}
-use mathlib.Core.Path.{_≡_, sym, ap, _∙_}
+use mathlib.Core.Path.{_≡_, refl, sym, ap, _∙_}
 use mathlib.Core.Logic.{_⊎_, inl, inr, ⊎-elim, _↔_}
-use mathlib.Core.Bool.{Bool, true, false, cond, not, _||_, true≢false}
+use mathlib.Core.Bool.{Bool, true, false, cond, not, _&&_, _||_, true≢false}
 use mathlib.Core.List.{List, [], _∷_, map}
 use lib.ListN.{length, drop}
 use lib.Seq.{getD-drop}
@@ -17,9 +17,10 @@ use Rattle.rule.specs.Refusal.{Refusal, first}
 use Rattle.rule.specs.Setups.{isPriority, isRoundRobin, sliceFits, bytesFit, setupRefusal}
 use Rattle.rule.specs.State.{State}
 use Rattle.rule.specs.Calls.{moved, Call, request, advance, drain, lastTime, mostAmount, advanceRefusal, requestRefusal, refusal}
+use Rattle.rule.specs.Table.{columnRefusal, tableRefusal}
 use Rattle.rule.specs.declared.Setup.{Setup}
 use Rattle.laws.specs.Accepted.{clearFrom}
-use Rattle.laws.specs.Reasons.{Reason, reason, Judged, setupReasons, advanceReasons, requestReasons, reasons}
+use Rattle.laws.specs.Reasons.{Reason, reason, Judged, setupReasons, tableReasons, advanceReasons, requestReasons, reasons}
 use Rattle.laws.proofs.Refusals.{isPriority-true, isPriority-false}
 
 -- ---- one more reason in front of a list
@@ -144,6 +145,36 @@ setup-judged p n =
     (λ h. judged-cons _ _ 2 _ n (outside 32 (p .count))
     (λ a. judged-cons _ _ 3 _ n (slice-unfit p h)
     (λ b. judged-cons _ _ 4 _ n (bytes-unfit p) (λ d. judged-nil n))))
+
+-- a list of refusals behind another
+first-through : (b : Bool) (m x y : ℕ)
+    → cond (eqb (cond b (suc m) x) 0) y (cond b (suc m) x) ≡ cond b (suc m) (cond (eqb x 0) y x)
+first-through true m x y = rw (ne-eqb (suc m) 0 (λ e. omega arith))
+first-through false m x y = refl
+
+unequal : (times tasks amounts : ℕ)
+    → (not (eqb tasks times && eqb amounts times) ≡ true) ↔ ((tasks ≡ times → ⊥) ⊎ (amounts ≡ times → ⊥))
+unequal times tasks amounts = (
+  λ e. tested (eqb tasks times)
+      (λ f. inr (eqb-false amounts times (not-true (eqb amounts times) (rw f at e))))
+      (λ f. inl (eqb-false tasks times f)),
+  ⊎-elim
+      (λ n. rw (ne-eqb tasks times n))
+      (λ n. tested (eqb tasks times) (λ f. rw (f, ne-eqb amounts times n)) (λ f. rw f)),
+)
+
+pub table-judged : (p : Setup) (times tasks amounts room n : ℕ)
+    → (tableRefusal p times tasks amounts room ≡ n) ↔ Judged (tableReasons p times tasks amounts room) n
+unfolding tableRefusal setupRefusal columnRefusal
+table-judged p times tasks amounts room n =
+    rw (first-through, first-through, first-through, first-through)
+    (judged-cons _ _ 1 _ n (policy-unknown p)
+    (λ h. judged-cons _ _ 2 _ n (outside 32 (p .count))
+    (λ x2. judged-cons _ _ 3 _ n (slice-unfit p h)
+    (λ x3. judged-cons _ _ 4 _ n (bytes-unfit p)
+    (λ x4. judged-cons _ _ 20 _ n (unequal times tasks amounts)
+    (λ x5. judged-cons _ _ 21 _ n (less 1_024 times)
+    (λ x6. judged-cons _ _ 22 _ n (less room times) (λ x7. judged-nil n))))))))
 
 pub advance-judged : (s : State) (t n : ℕ) → (advanceRefusal s t ≡ n) ↔ Judged (advanceReasons s t) n
 unfolding advanceRefusal

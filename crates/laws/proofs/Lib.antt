@@ -12,3 +12,4 @@ pub mod Looking
 pub mod Closing
 pub mod Completion
 pub mod Soonest
+pub mod Tables

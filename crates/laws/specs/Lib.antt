@@ -8,3 +8,4 @@ pub mod Sequences
 pub mod Looks
 pub mod During
 pub mod Next
+pub mod Rows

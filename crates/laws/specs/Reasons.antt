@@ -1,10 +1,10 @@
--- Document 01, "Refusal numbers", as facts: for a setup and each call the list of its refusals, in the order in which they are
--- judged, each number beside what it is "given exactly when". The rule's tests mean these (`setup-judged`, `request-judged`,
--- `advance-judged`). Assumes nothing.
+-- Document 01, "Refusal numbers", as facts: for a setup, a table and each call the list of its refusals, in the order in
+-- which they are judged, each number beside what it is "given exactly when". The rule's tests mean these (`setup-judged`,
+-- `table-judged`, `refusal-judged`). Assumes nothing.
 use Prim.Native.Nat.{ℕ, _≤_, _<_}
 use mathlib.Core.Path.{_≡_}
 use mathlib.Core.Logic.{_⊎_}
-use mathlib.Core.List.{List, [], _∷_}
+use mathlib.Core.List.{List, [], _∷_, _++_}
 use lib.ListN.{length}
 use Rattle.lists.specs.Lists.{at}
 use Rattle.rule.specs.State.{State}
@@ -40,6 +40,15 @@ setupReasons p =
           ((length (p .priority) ≡ 32 → ⊥)
           ⊎ ((i : ℕ) × (clearFrom p ≤ i) × (0 < at (p .priority) i)))
     ∷ []
+
+-- "Table: 1 to 4, then 20, 21, 22": by the columns' lengths and that of the result column
+abbrev pub tableReasons : Setup → ℕ → ℕ → ℕ → ℕ → List Reason
+tableReasons p times tasks amounts room =
+    setupReasons p
+    ++ (reason 20 ((tasks ≡ times → ⊥) ⊎ (amounts ≡ times → ⊥))
+    ∷ reason 21 (1_024 < times)
+    ∷ reason 22 (room < times)
+    ∷ [])
 
 -- "Advance: 10, 11."
 abbrev pub advanceReasons : State → ℕ → List Reason
