@@ -13,3 +13,5 @@ pub mod Closing
 pub mod Completion
 pub mod Soonest
 pub mod Tables
+pub mod Sequences
+pub mod Unique

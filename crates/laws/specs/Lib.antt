@@ -9,3 +9,4 @@ pub mod Looks
 pub mod During
 pub mod Next
 pub mod Rows
+pub mod Played
