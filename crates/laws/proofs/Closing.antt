@@ -1,4 +1,5 @@
--- When a task closes, as ticks go on. In order: one tick, ticks, the instant at which an open task is done. Assumes nothing.
+-- When a task closes, as ticks go on. In order: one tick, ticks, the instant at which an open task is done. Assumes
+-- nothing.
 use Prim.Native.Nat.{ℕ, zero, suc, _+_, _-_, _≤_, _<_}
 use native.Mathlib.Omega.{arith}
 use mathlib.Core.Path.{_≡_, refl, ap, _∙_}

@@ -1,5 +1,5 @@
--- A row's completion is the first instant at which its request is no longer open (`closes`). In order: what a call is to a
--- task that it does not open, tasks that are not open, tasks that are, the theorem. Assumes nothing.
+-- A row's completion is the first instant at which its request is no longer open (`closes`). In order: what a call is
+-- to a task that it does not open, tasks that are not open, tasks that are, the theorem. Assumes nothing.
 use Prim.Native.Nat.{ℕ, _+_, _-_, _≤_, _<_}
 use native.Mathlib.Omega.{arith}
 use mathlib.Core.Path.{_≡_, refl, sym, ap, _∙_, subst}
@@ -128,7 +128,8 @@ from-ticks s k n cs t w d e =
       reads = ap (λ (r : State). at (r .done) k) there ∙ w .reads-then ∙ sym e;
     }
 
-module _ (s : State) (k n : ℕ) (c : Call) (cs : List Call) (h : Sound s) (o : 0 < at (s .owed) k) (p : Passes s k c n) where
+module _ (s : State) (k n : ℕ) (c : Call) (cs : List Call) (h : Sound s) (o : 0 < at (s .owed) k)
+    (p : Passes s k c n) where
   -- it is done by the end of this call
   done-by : (t : ℕ) → at (call s c .owed) k ≡ 0 → t ≡ at (call s c .done) k → ClosesAt s k (c ∷ cs) t
   done-by t z e =
@@ -182,7 +183,9 @@ next-closes s k t j b cs h o z e =
     let q = request-accepted s t j b z in
     let n : ℕ = t - s .clock in
     let w = done-in n s k h o (ap (at (ticks n s .owed)) (sym e) ∙ q .closed) in
-    from-ticks s k n (c ∷ cs) (at (ticks n s .done) k) w (λ u l. during-early s c cs u (omega (arith, q .later))) (w .reads)
+    from-ticks s k n (c ∷ cs) (at (ticks n s .done) k) w
+    (λ u l. during-early s c cs u (omega (arith, q .later)))
+    (w .reads)
 
 -- ---- the theorem, for a task that is open and calls that are accepted
 

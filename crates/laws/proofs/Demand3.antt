@@ -1,5 +1,5 @@
--- Demand 3: what is owed, idle and given is what the accepted requests and the clock say, under either policy. In order: sums
--- with one request more, the count a tick on, ticks, calls, the theorem. Assumes nothing.
+-- Demand 3: what is owed, idle and given is what the accepted requests and the clock say, under either policy. In
+-- order: sums with one request more, the count a tick on, ticks, calls, the theorem. Assumes nothing.
 use Prim.Native.Nat.{ℕ, zero, suc, _+_, _-_, _≤_, _<_}
 use native.Mathlib.Numerals.{add-one}
 use native.Mathlib.Omega.{arith}

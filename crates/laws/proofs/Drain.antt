@@ -1,5 +1,5 @@
--- The drain, and how far a clock goes. In order: what ticks leave owed, the drain, the greatest clock, late calls. Assumes
--- nothing.
+-- The drain, and how far a clock goes. In order: what ticks leave owed, the drain, the greatest clock, late calls.
+-- Assumes nothing.
 use Prim.Native.Nat.{ℕ, zero, suc, _+_, _-_, _≤_, _<_}
 use native.Mathlib.Omega.{arith}
 use mathlib.Core.Path.{_≡_, ap, subst}

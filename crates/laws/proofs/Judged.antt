@@ -20,7 +20,7 @@ use Rattle.rule.specs.Calls.{moved, Call, request, advance, drain, lastTime, mo
 use Rattle.rule.specs.Table.{columnRefusal, tableRefusal}
 use Rattle.rule.specs.declared.Setup.{Setup}
 use Rattle.laws.specs.Accepted.{clearFrom}
-use Rattle.laws.specs.Reasons.{Reason, reason, Judged, setupReasons, tableReasons, advanceReasons, requestReasons, reasons}
+use Rattle.laws.specs.Reasons.{Reason, reason, Judged, PolicyUnknown, SliceUnfit, BytesUnfit, setupReasons, tableReasons, advanceReasons, requestReasons, reasons}
 use Rattle.laws.proofs.Refusals.{isPriority-true, isPriority-false}
 
 -- ---- one more reason in front of a list
@@ -78,7 +78,7 @@ outside high n = (
       (λ h. rw (within-above 1 high n h)),
 )
 
-policy-unknown : (p : Setup) → (not (isPriority p || isRoundRobin p) ≡ true) ↔ ((p .policy ≡ 1 → ⊥) × (p .policy ≡ 2 → ⊥))
+policy-unknown : (p : Setup) → (not (isPriority p || isRoundRobin p) ≡ true) ↔ PolicyUnknown p
 policy-unknown p = (
   λ e. (
     λ f. true≢false (sym (rw (isPriority-true p f) at e)),
@@ -87,28 +87,37 @@ policy-unknown p = (
   λ w. rw (ne-eqb (p .policy) 1 (w .0), ne-eqb (p .policy) 2 (w .1)),
 )
 
--- a policy that is known
-abbrev Known : Setup → Type 0
-Known p = ((p .policy ≡ 1 → ⊥) × (p .policy ≡ 2 → ⊥)) → ⊥
+-- where the policy is known, it is round robin if it is not priority
+robin : (p : Setup) → (PolicyUnknown p → ⊥) → isPriority p ≡ false → p .policy ≡ 2
+robin p h e = equal-or (p .policy) 2 (λ f. f) (λ n. absurd (h (eqb-false (p .policy) 1 e, n)))
 
-known : (p : Setup) → Known p → (isPriority p ≡ false) → p .policy ≡ 2
-known p h e =
-    equal-or (p .policy) 2 (λ f. f) (λ n. absurd (h (eqb-false (p .policy) 1 e, n)))
-
-slice-unfit : (p : Setup) → Known p
-    → (not (sliceFits p) ≡ true) ↔ (((p .policy ≡ 1) × (0 < p .slice)) ⊎ ((p .policy ≡ 2) × ((p .slice ≡ 0) ⊎ (65_535 < p .slice))))
+slice-unfit : (p : Setup) → (PolicyUnknown p → ⊥) → (not (sliceFits (p .policy) (p .slice)) ≡ true) ↔ SliceUnfit p
 unfolding sliceFits
 slice-unfit p h = (
   λ e. tested (isPriority p)
-      (λ f. inl (eqb-true (p .policy) 1 f, omega (arith, eqb-false (p .slice) 0 (not-true (eqb (p .slice) 0) (rw f at e)))))
-      (λ f. inr (known p h f, outside 65_535 (p .slice) .0 (rw f at e))),
+      (λ f.
+      let some : p .slice ≡ 0 → ⊥ = eqb-false (p .slice) 0 (not-true (eqb (p .slice) 0) (rw f at e)) in
+      inl (eqb-true (p .policy) 1 f, omega arith))
+      (λ f. inr (robin p h f, outside 65_535 (p .slice) .0 (rw f at e))),
   ⊎-elim
       (λ w. rw (isPriority-true p (w .0), ne-eqb (p .slice) 0 (λ z. omega (arith, w .1))))
       (λ w. rw (isPriority-false p (w .0)) (outside 65_535 (p .slice) .1 (w .1))),
 )
 
-bytes-unfit : (p : Setup)
-    → (not (bytesFit p) ≡ true) ↔ ((length (p .priority) ≡ 32 → ⊥) ⊎ ((i : ℕ) × (clearFrom p ≤ i) × (0 < at (p .priority) i)))
+-- a byte that must be 0 and is not
+bytes-not : (p : Setup) (i : ℕ) → clearFrom p ≤ i → 0 < at (p .priority) i
+    → zeros (drop (clearFrom p) (p .priority)) ≡ true → ⊥
+bytes-not p i l some g =
+    let j : ℕ = i - clearFrom p in
+    let e : i ≡ clearFrom p + j = omega arith in
+    omega (
+      arith,
+      ap (at (p .priority)) e,
+      getD-drop (clearFrom p) (p .priority) j 0,
+      zeros-true (drop (clearFrom p) (p .priority)) j g,
+    )
+
+bytes-unfit : (p : Setup) → (not (bytesFit (p .policy) (p .count) (p .priority)) ≡ true) ↔ BytesUnfit p
 unfolding bytesFit
 bytes-unfit p =
     let rest : List ℕ = drop (clearFrom p) (p .priority) in (
@@ -122,19 +131,9 @@ bytes-unfit p =
       ⊎-elim
           (λ n. rw (ne-eqb (length (p .priority)) 32 n))
           (λ w. tested (zeros rest)
-          (λ g. absurd (clear-not p (w .0) (w .1) (w .2) g))
+          (λ g. absurd (bytes-not p (w .0) (w .1) (w .2) g))
           (λ g. tested (eqb (length (p .priority)) 32) (λ f. rw (f, g)) (λ f. rw f))),
     )
-  where
-    clear-not : (p : Setup) (i : ℕ) → clearFrom p ≤ i → 0 < at (p .priority) i
-        → zeros (drop (clearFrom p) (p .priority)) ≡ true → ⊥
-    clear-not p i l some g =
-        let e : at (p .priority) (clearFrom p + (i - clearFrom p)) ≡ 0 =
-        sym (getD-drop (clearFrom p) (p .priority) (i - clearFrom p) 0) ∙ zeros-true (drop (clearFrom p) (p .priority)) (i - clearFrom p) g in
-        omega (arith, ap (at (p .priority)) (index p i l) ∙ e)
-      where
-        index : (p : Setup) (i : ℕ) → clearFrom p ≤ i → i ≡ clearFrom p + (i - clearFrom p)
-        index p i l = omega arith
 
 -- ---- the lists
 

@@ -1,5 +1,5 @@
--- Looking costs nothing: an advance that is added before a call changes neither its answer nor the state that it leaves. In
--- order: one call, sequences. Assumes nothing.
+-- Looking costs nothing: an advance that is added before a call changes neither its answer nor the state that it
+-- leaves. In order: one call, sequences. Assumes nothing.
 use Prim.Native.Nat.{ℕ, _+_, _-_, _≤_}
 use native.Mathlib.Omega.{arith}
 use mathlib.Core.Path.{_≡_, refl, sym, ap, ap₂, _∙_, subst}
@@ -62,8 +62,8 @@ pub advanced : (s : State) (u : ℕ) → refusal s (advance u) ≡ 0 → (s .clo
 unfolding refusal effect
 advanced s u e = (advance-accepted s u e .later, accepted-acts s (advance u) e)
 
--- The advance is accepted and the call goes as far or farther: its answer is the same with the advance before it, and so
--- is the state afterwards where it is accepted.
+-- The advance is accepted and the call goes as far or farther: its answer is the same with the advance before it, and
+-- so is the state afterwards where it is accepted.
 pub looking : (s : State) (u : ℕ) (c : Call) → Sound s → refusal s (advance u) ≡ 0 → u ≤ reach s c
     → (refusal (call s (advance u)) c ≡ refusal s c) × (refusal s c ≡ 0 → call (call s (advance u)) c ≡ call s c)
 looking s u c h e r =
@@ -74,8 +74,8 @@ looking s u c h e r =
 
 -- ---- sequences
 
--- How far the state with the advances is ahead of the one without: not at all, or at a time that is in time for the next
--- call.
+-- How far the state with the advances is ahead of the one without: not at all, or at a time that is in time for the
+-- next call.
 abbrev Ahead : State → State → List Entry → Type 0
 Ahead s r es = (r ≡ s) ⊎ ((u : ℕ) × (r ≡ moved s u) × (s .clock ≤ u) × InTime s u es)
 

@@ -1,5 +1,5 @@
--- The reading of the next completion names the first one, and only it (`next-exact`). In order: the search in the column of
--- completions, a tick, ticks, the reading. Assumes nothing.
+-- The reading of the next completion names the first one, and only it (`next-exact`). In order: the search in the
+-- column of completions, a tick, ticks, the reading. Assumes nothing.
 use Prim.Native.Nat.{ℕ, zero, suc, _+_, _-_, _≤_, _<_, min}
 use native.Mathlib.Nat.{le-refl}
 use native.Mathlib.Omega.{arith}
@@ -190,7 +190,9 @@ unfolding doneWithin
 done-within zero s k t h b w = absurd (omega (arith, w .later))
 done-within (suc n) s k t h b w =
     ⊎-elim
-    (λ q. rw (q .finds) (done-within n (tick s) k t (tick-sound s h) (omega (arith, tick-clock s)) (next-after s k t h q w)))
+    (λ q.
+    rw (q .finds)
+    (done-within n (tick s) k t (tick-sound s h) (omega (arith, tick-clock s)) (next-after s k t h q w)))
     (λ v.
     let e = next-once s k t h (v .0) (v .1) w in
     rw (v .1 .finds, ← e .0, e .1))

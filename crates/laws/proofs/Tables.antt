@@ -1,5 +1,5 @@
--- What a table gives: a refusal before the rows, the first refused row, or the column and the end. In order: refusals before
--- the rows, rows, the outcome, the column, what an entry is. Assumes nothing.
+-- What a table gives: a refusal before the rows, the first refused row, or the column and the end. In order: refusals
+-- before the rows, rows, the outcome, the column, what an entry is. Assumes nothing.
 use Prim.Native.Nat.{ℕ, zero, suc, _+_, _-_, _≤_, _<_}
 use native.Mathlib.Omega.{arith}
 use mathlib.Core.Path.{_≡_, refl, sym, ap, _∙_}
@@ -208,7 +208,7 @@ row-open s t k m h z =
 pub row-closes : (s : State) (ts ks ms : List ℕ) (i : ℕ) → Sound s → AllAccepted s (rows ts ks ms)
     → i < length (rows ts ks ms)
     → ClosesAt (calls s (take (suc i) (rows ts ks ms))) (at ks i) (drop (suc i) (rows ts ks ms))
-        (at (completions s (rows ts ks ms)) i)
+    (at (completions s (rows ts ks ms)) i)
 unfolding rows calls completions AllAccepted
 row-closes s [] ks ms i h a b = absurd (omega arith)
 row-closes s (t ∷ ts) [] ms i h a b = absurd (omega arith)

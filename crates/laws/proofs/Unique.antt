@@ -1,5 +1,5 @@
--- No two different outcomes satisfy a promise, and what the promises of single calls give for sequences of calls on runs. In
--- order: the shapes of promises, runs and their views, setups and calls, sequences. Assumes nothing.
+-- No two different outcomes satisfy a promise, and what the promises of single calls give for sequences of calls on
+-- runs. In order: the shapes of promises, runs and their views, setups and calls, sequences. Assumes nothing.
 use Prim.Native.Nat.{ℕ, _-_}
 use native.Mathlib.Omega.{arith}
 use mathlib.Core.Path.{_≡_, refl, sym, ap, ap₂, _∙_, subst}

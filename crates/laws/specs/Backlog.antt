@@ -1,5 +1,5 @@
--- Demand 3's count: from the accepted requests and the clock alone, with no word of the rule. In order: sums over requests,
--- the backlog, the accepted requests of a sequence of calls, what demand 3 says. Assumes nothing.
+-- Demand 3's count: from the accepted requests and the clock alone, with no word of the rule. In order: sums over
+-- requests, the backlog, the accepted requests of a sequence of calls, what demand 3 says. Assumes nothing.
 use Prim.Native.Nat.{ℕ, zero, suc, _+_, _-_}
 use mathlib.Core.Path.{_≡_}
 use mathlib.Core.Bool.{cond}

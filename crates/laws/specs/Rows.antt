@@ -1,5 +1,5 @@
--- Document 01, "Tables", as facts: what columns have that are not refused, which row is refused, and what a table comes to.
--- Assumes nothing.
+-- Document 01, "Tables", as facts: what columns have that are not refused, which row is refused, and what a table
+-- comes to. Assumes nothing.
 use Prim.Native.Nat.{ℕ, _+_, _≤_}
 use mathlib.Core.Path.{_≡_}
 use mathlib.Core.List.{List, _∷_, _++_}
@@ -30,8 +30,8 @@ pub record FirstRefused (s : State) (cs : List Call) (n i : ℕ) : Type 0 where
   pub number : refusal (calls s before) culprit ≡ n
   pub wrong : n ≡ 0 → ⊥
 
--- The outcome o of rows whose table has the refusal n, in the order in which a table is judged: "1 to 4, then 20, 21, 22,
--- then rows", each refused row counted from 1.
+-- The outcome o of rows whose table has the refusal n, in the order in which a table is judged: "1 to 4, then 20, 21,
+-- 22, then rows", each refused row counted from 1.
 pub data Comes (p : Setup) (cs : List Call) (n : ℕ) (o : Outcome) : Type 0 where
   before-rows : (n ≡ 0 → ⊥) → o ≡ refused n 0 → Comes p cs n o
   at-row : (m i : ℕ) → n ≡ 0 → FirstRefused (fresh p) cs m i → o ≡ refused m (1 + i) → Comes p cs n o
