@@ -1,5 +1,5 @@
--- Who is served. In order: the chosen task stands in the queue; under priority it is the foremost, and there is only one such;
--- under round robin it is the head. Assumes nothing.
+-- Who is served. In order: the chosen task stands in the queue; under priority it is the foremost, and there is only
+-- one such; under round robin it is the head. Assumes nothing.
 use Prim.Native.Nat.{ℕ, _+_, _≤_, _<_}
 use native.Mathlib.Nat.{le-refl, le-trans, not-suc-le-zero, le-antisymm}
 use native.Mathlib.Omega.{arith}
@@ -60,7 +60,8 @@ ahead-trans prio a b c h g =
     record {
       greater = le-trans (g .greater) (h .greater);
       smaller = λ e.
-          le-trans (h .smaller (omega (arith, h .greater, g .greater))) (g .smaller (omega (arith, h .greater, g .greater)));
+          let level : at prio b ≡ at prio a = omega (arith, h .greater, g .greater) in
+          le-trans (h .smaller level) (g .smaller (omega arith));
     }
 
 before-ahead : (prio : List ℕ) (a b : ℕ) → Ahead prio (before prio a b) a × Ahead prio (before prio a b) b

@@ -2,5 +2,16 @@ pub mod Ticks
 pub mod Chosen
 pub mod Served
 pub mod Refusals
+pub mod Judged
 pub mod Sound
 pub mod Made
+pub mod Counts
+pub mod Demand3
+pub mod Drain
+pub mod Looking
+pub mod Closing
+pub mod Completion
+pub mod Soonest
+pub mod Tables
+pub mod Sequences
+pub mod Unique

@@ -9,7 +9,7 @@ use mathlib.Core.List.{List, [], _∷_, _++_}
 use lib.ListN.{set, length, length-set}
 use lib.Dec.{eqb}
 use borrow.Author.Tests.{eqb-true}
-use Rattle.lists.specs.Lists.{at, total, times}
+use Rattle.lists.specs.Lists.{at, total, same, times}
 use Rattle.lists.proofs.Testing.{tested, equal-or, cond-both}
 use Rattle.lists.proofs.Counting.{same-equal, same-other, times-nil, times-cons, times-head, times-append, times-none, length-once}
 use Rattle.lists.proofs.Totals.{at-replicate, at-set-same, at-set-other, at-le-total, total-zero}
@@ -57,8 +57,8 @@ opened-sound s k a h c some few z =
     λ j e. rw e (at-set-same (s .owed) k a inside) in
     let there : (j : ℕ) → (j ≡ k → ⊥) → at (set (s .owed) k a) j ≡ at (s .owed) j =
     λ j n. at-set-other (s .owed) k a j n in
-    let one-more : (j : ℕ) → times j (s .queue ++ k ∷ []) ≡ times j (s .queue) + times j (k ∷ []) =
-    λ j. times-append j (s .queue) (k ∷ []) in
+    let one-more : (j : ℕ) → times j (s .queue ++ k ∷ []) ≡ times j (s .queue) + same j k =
+    λ j. omega (arith, times-append j (s .queue) (k ∷ []), times-cons j k [], times-nil j) in
     record {
       few = h .few;
       owed32 = simp length-set (h .owed32);
@@ -67,8 +67,8 @@ opened-sound s k a h c some few z =
       sliced = h .sliced;
       queued = λ j.
           equal-or j k
-          (λ e. omega (arith, one-more j, times-cons j k [], times-nil j, h .queued j, same-equal j k e, here j e, ap (at (s .owed)) e))
-          (λ n. omega (arith, one-more j, times-cons j k [], times-nil j, h .queued j, same-other j k n, there j n));
+          (λ e. omega (arith, one-more j, h .queued j, same-equal j k e, here j e, ap (at (s .owed)) e))
+          (λ n. omega (arith, one-more j, h .queued j, same-other j k n, there j n));
       counted = λ j d. omega (arith, there j (λ e. omega arith), h .counted j d);
       limit = λ j. equal-or j k (λ e. omega (arith, here j e)) (λ n. omega (arith, there j n, h .limit j));
       spent = h .spent;

@@ -1,5 +1,5 @@
--- What it is that a setup or a call is accepted, and what a refusal leaves. In order: setups, advances, requests, demand 1
--- for the state. Assumes nothing.
+-- What it is that a setup or a call is accepted, and what a refusal leaves. In order: setups, advances, requests,
+-- demand 1 for the state. Assumes nothing.
 use Prim.Native.Nat.{ℕ, _+_, _-_, _≤_, zero-le}
 use native.Mathlib.Nat.{le-antisymm}
 use native.Mathlib.Omega.{arith}

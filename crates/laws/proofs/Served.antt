@@ -1,5 +1,5 @@
--- What a tick does, whatever the policy: it is idle, or one open task is served (`ticked`). What is said of both policies
--- rests on this file and not on who is chosen. In order: the turn, the service, the tick. Assumes nothing.
+-- What a tick does, whatever the policy: it is idle, or one open task is served (`ticked`). What is said of both
+-- policies rests on this file and not on who is chosen. In order: the turn, the service, the tick. Assumes nothing.
 use Prim.Native.Nat.{ℕ, _+_, _-_, _≤_, _<_}
 use native.Mathlib.Omega.{arith}
 use mathlib.Core.Path.{_≡_, refl, sym, ap, _∙_, subst}
@@ -59,7 +59,8 @@ length-turn s =
     refl
 
 -- after the turn some of the slice is left
-pub used-turn : (s : State) → isPriority (s .setup) ≡ false → Sliced (s .setup) (s .used) → turn s .used < s .setup .slice
+pub used-turn : (s : State) → isPriority (s .setup) ≡ false → Sliced (s .setup) (s .used)
+    → turn s .used < s .setup .slice
 unfolding turn overdue
 used-turn s e h =
     rw e
@@ -115,7 +116,8 @@ pub ticked : (s : State) → ((s .queue ≡ []) × (tick s ≡ rest s 1)) ⊎ ((
 unfolding tick tickOn
 ticked s = go (s .queue) refl
   where
-    go : (q : List ℕ) → s .queue ≡ q → ((s .queue ≡ []) × (tickOn s (s .queue) ≡ rest s 1)) ⊎ ((i : ℕ) × Served s (tickOn s (s .queue)) i)
+    go : (q : List ℕ) → s .queue ≡ q
+        → ((s .queue ≡ []) × (tickOn s (s .queue) ≡ rest s 1)) ⊎ ((i : ℕ) × Served s (tickOn s (s .queue)) i)
     go [] e = inl (e, ap (tickOn s) e)
     go (h ∷ t) e =
         inr (

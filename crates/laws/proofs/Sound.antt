@@ -1,5 +1,5 @@
--- Ticks keep the invariant, proved once over the policy. In order: what a service does to a sound state, ticks, moves and
--- drains. (Calls, setups and made states: Made.) Assumes nothing.
+-- Ticks keep the invariant, proved once over the policy. In order: what a service does to a sound state, ticks, moves
+-- and drains. (Calls, setups and made states: Made.) Assumes nothing.
 use Prim.Native.Nat.{ℕ, zero, suc, _+_, _-_, _≤_, _<_, min}
 use native.Mathlib.Omega.{arith}
 use mathlib.Core.Path.{_≡_, sym, ap, _∙_, subst}
@@ -74,8 +74,11 @@ module _ (s r : State) (i : ℕ) (h : Sound s) (v : Served s r i) where
       (λ l.
       let one : at (s .owed) i ≡ 1 = eqb-true (at (s .owed) i) 1 l in
       equal-or k i
-      (λ e. v .queue k ∙ cond-true _ _ l ∙ rw e (omega (arith, times-without-same i (s .queue), owed-at i, same-refl i)))
-      (λ n. v .queue k ∙ cond-true _ _ l ∙ times-without-other k i (s .queue) n ∙ omega (arith, h .queued k, owed-at k, same-other k i n)))
+      (λ e.
+      v .queue k ∙ cond-true _ _ l ∙ rw e (omega (arith, times-without-same i (s .queue), owed-at i, same-refl i)))
+      (λ n.
+      v .queue k ∙ cond-true _ _ l ∙ times-without-other k i (s .queue) n
+      ∙ omega (arith, h .queued k, owed-at k, same-other k i n)))
       (λ l.
       let more : at (s .owed) i ≡ 1 → ⊥ = eqb-false (at (s .owed) i) 1 l in
       equal-or k i

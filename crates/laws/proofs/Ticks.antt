@@ -1,4 +1,5 @@
--- What ticks do to the clock and the setup, and how they add up. In order: one tick, ticks, moves and drains. Assumes nothing.
+-- What ticks do to the clock and the setup, and how they add up. In order: one tick, ticks, moves and drains. Assumes
+-- nothing.
 use Prim.Native.Nat.{ℕ, zero, suc, _+_, _-_, _≤_}
 use native.Mathlib.Nat.{suc-add, zero-add}
 use native.Mathlib.Omega.{arith}

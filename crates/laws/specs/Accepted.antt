@@ -1,5 +1,5 @@
--- Document 01, "Refusal numbers", where none is given: what an accepted setup, request and advance has, a field for each
--- number. Assumes nothing.
+-- Document 01, "Refusal numbers", where none is given: what an accepted setup, request and advance has, a field for
+-- each number. Assumes nothing.
 use Prim.Native.Nat.{ℕ, _≤_, _<_}
 use mathlib.Core.Path.{_≡_}
 use mathlib.Core.Logic.{_⊎_}

@@ -1,3 +1,12 @@
 pub mod Sound
 pub mod Foremost
 pub mod Accepted
+pub mod Reasons
+pub mod Backlog
+pub mod Drains
+pub mod Sequences
+pub mod Looks
+pub mod During
+pub mod Next
+pub mod Rows
+pub mod Played

@@ -1,0 +1,208 @@
+-- Demand 3: what is owed, idle and given is what the accepted requests and the clock say, under either policy. In
+-- order: sums with one request more, the count a tick on, ticks, calls, the theorem. Assumes nothing.
+use Prim.Native.Nat.{ℕ, zero, suc, _+_, _-_, _≤_, _<_}
+use native.Mathlib.Numerals.{add-one}
+use native.Mathlib.Omega.{arith}
+use mathlib.Core.Path.{_≡_, refl, sym, ap, subst}
+use mathlib.Core.Logic.{⊎-elim}
+use mathlib.Core.Bool.{cond}
+use mathlib.Core.List.{List, [], _∷_, _++_, append-assoc, append-nil}
+use lib.Dec.{eqb}
+use lib.ListN.{length}
+use borrow.Author.Tests.{eqb-true, eq-eqb, ne-eqb}
+use Rattle.lists.specs.Lists.{at, total}
+use Rattle.lists.proofs.Testing.{tested, equal-or, cond-true, cond-false}
+use Rattle.lists.proofs.Totals.{at-replicate, at-set-same, at-set-other, total-set}
+use Rattle.rule.specs.Setups.{setupRefusal}
+use Rattle.rule.specs.State.{State, fresh}
+use Rattle.rule.specs.Tick.{rest, tick, ticks}
+use Rattle.rule.specs.Calls.{moved, drained, opened, Call, request, advance, drain, refusal, effect, call, calls}
+use Rattle.rule.specs.declared.Setup.{Setup}
+use Rattle.laws.specs.Sound.{Sound}
+use Rattle.laws.specs.Accepted.{Requested}
+use Rattle.laws.specs.Backlog.{Ask, amounts, sumAt, sumOf, backlog, emptyTicks, asks, accepted, Accounted}
+use Rattle.laws.proofs.Ticks.{moved-clock}
+use Rattle.laws.proofs.Served.{Served, ticked}
+use Rattle.laws.proofs.Refusals.{request-accepted}
+use Rattle.laws.proofs.Sound.{tick-sound, owed-total, owed-at, given-at}
+use Rattle.laws.proofs.Made.{none-owed, call-sound, fresh-sound}
+
+-- ---- one request more
+
+pub sumAt-append : (f : Ask → ℕ) (l ds : List Ask) (t : ℕ) → sumAt f (l ++ ds) t ≡ sumAt f l t + sumAt f ds t
+unfolding sumAt
+sumAt-append f [] ds t = omega arith
+sumAt-append f (q ∷ l) ds t = omega (arith, sumAt-append f l ds t)
+
+pub sumOf-append : (f : Ask → ℕ) (l ds : List Ask) (k : ℕ) → sumOf f (l ++ ds) k ≡ sumOf f l k + sumOf f ds k
+unfolding sumOf
+sumOf-append f [] ds k = omega arith
+sumOf-append f (q ∷ l) ds k = omega (arith, sumOf-append f l ds k)
+
+module _ (f : Ask → ℕ) (l : List Ask) (q : Ask) where
+  sumAt-same : (t : ℕ) → q .time ≡ t → sumAt f (l ++ q ∷ []) t ≡ sumAt f l t + f q
+  unfolding sumAt
+  sumAt-same t e = omega (arith, sumAt-append f l (q ∷ []) t, cond-true (f q) 0 (eq-eqb (q .time) t e))
+
+  sumAt-other : (t : ℕ) → (q .time ≡ t → ⊥) → sumAt f (l ++ q ∷ []) t ≡ sumAt f l t
+  unfolding sumAt
+  sumAt-other t n = omega (arith, sumAt-append f l (q ∷ []) t, cond-false (f q) 0 (ne-eqb (q .time) t n))
+
+  sumOf-same : (k : ℕ) → q .task ≡ k → sumOf f (l ++ q ∷ []) k ≡ sumOf f l k + f q
+  unfolding sumOf
+  sumOf-same k e = omega (arith, sumOf-append f l (q ∷ []) k, cond-true (f q) 0 (eq-eqb (q .task) k e))
+
+  sumOf-other : (k : ℕ) → (q .task ≡ k → ⊥) → sumOf f (l ++ q ∷ []) k ≡ sumOf f l k
+  unfolding sumOf
+  sumOf-other k n = omega (arith, sumOf-append f l (q ∷ []) k, cond-false (f q) 0 (ne-eqb (q .task) k n))
+
+module _ (l : List Ask) (q : Ask) where
+  backlog-before : (t : ℕ) → t < q .time → backlog (l ++ q ∷ []) t ≡ backlog l t
+  unfolding backlog
+  backlog-before zero h = sumAt-other amounts l q 0 (λ e. omega arith)
+  backlog-before (suc t) h =
+      omega (arith, backlog-before t (omega arith), sumAt-other amounts l q (suc t) (λ e. omega arith))
+
+  backlog-then : (t : ℕ) → t ≡ q .time → backlog (l ++ q ∷ []) t ≡ backlog l t + q .amount
+  unfolding backlog
+  backlog-then zero e = sumAt-same amounts l q 0 (sym e)
+  backlog-then (suc t) e = omega (arith, backlog-before t (omega arith), sumAt-same amounts l q (suc t) (sym e))
+
+  empty-before : (t : ℕ) → t ≤ q .time → emptyTicks (l ++ q ∷ []) t ≡ emptyTicks l t
+  unfolding emptyTicks
+  empty-before zero h = refl
+  empty-before (suc t) h = rw (backlog-before t (omega arith)) (omega (arith, empty-before t (omega arith)))
+
+-- ---- one tick on, where nothing is added at its end
+
+backlog-next : (l : List Ask) (t : ℕ) → sumAt amounts l (suc t) ≡ 0 → backlog l (suc t) ≡ backlog l t - 1
+unfolding backlog
+backlog-next l t e = omega arith
+
+empty-more : (l : List Ask) (t : ℕ) → backlog l t ≡ 0 → emptyTicks l (suc t) ≡ emptyTicks l t + 1
+unfolding emptyTicks
+empty-more l t e = ap (λ (n : ℕ). emptyTicks l t + n) (cond-true 1 0 (eq-eqb (backlog l t) 0 e))
+
+empty-same : (l : List Ask) (t : ℕ) → 0 < backlog l t → emptyTicks l (suc t) ≡ emptyTicks l t
+unfolding emptyTicks
+empty-same l t h = omega (arith, cond-false {A = ℕ} 1 0 (ne-eqb (backlog l t) 0 (λ e. omega arith)))
+
+-- ---- ticks
+
+-- what is carried from call to call
+record Counted (l : List Ask) (s : State) : Type 0 where
+  sound : Sound s
+  owed : total (s .owed) ≡ backlog l (s .clock)
+  idle : s .idle ≡ emptyTicks l (s .clock)
+  each : (k : ℕ) → sumOf amounts l k ≡ at (s .given) k + at (s .owed) k
+  none-later : (t : ℕ) → s .clock < t → sumAt amounts l t ≡ 0
+
+rest-counted : (l : List Ask) (s : State) → s .queue ≡ [] → Counted l s → Sound (rest s 1) → Counted l (rest s 1)
+unfolding rest
+rest-counted l s e h g =
+    let c : s .clock + 1 ≡ suc (s .clock) = add-one (s .clock) in
+    let z : total (s .owed) ≡ 0 = none-owed s (h .sound) e in
+    let none : sumAt amounts l (suc (s .clock)) ≡ 0 = h .none-later (suc (s .clock)) (omega arith) in
+    record {
+      sound = g;
+      owed = omega (arith, h .owed, ap (backlog l) c, backlog-next l (s .clock) none);
+      idle = omega (arith, h .idle, ap (emptyTicks l) c, empty-more l (s .clock) (omega (arith, h .owed)));
+      each = h .each;
+      none-later = λ t d. h .none-later t (omega arith);
+    }
+
+served-counted : (l : List Ask) (s r : State) (i : ℕ) → Served s r i → Counted l s → Sound r → Counted l r
+served-counted l s r i v h g =
+    let c : r .clock ≡ suc (s .clock) = omega (arith, v .clock) in
+    let less : total (r .owed) + 1 ≡ total (s .owed) = owed-total s r i (h .sound) v in
+    let none : sumAt amounts l (suc (s .clock)) ≡ 0 = h .none-later (suc (s .clock)) (omega arith) in
+    record {
+      sound = g;
+      owed = omega (arith, h .owed, ap (backlog l) c, backlog-next l (s .clock) none);
+      idle = omega (arith, h .idle, v .idle, ap (emptyTicks l) c, empty-same l (s .clock) (omega (arith, h .owed)));
+      each = λ k. omega (arith, h .each k, owed-at s r i (h .sound) v k, given-at s r i (h .sound) v k);
+      none-later = λ t d. h .none-later t (omega arith);
+    }
+
+tick-counted : (l : List Ask) (s : State) → Counted l s → Counted l (tick s)
+tick-counted l s h =
+    let g : Sound (tick s) = tick-sound s (h .sound) in
+    ⊎-elim
+    (λ w. subst (Counted l) (sym (w .1)) (rest-counted l s (w .0) h (subst Sound (w .1) g)))
+    (λ w. served-counted l s (tick s) (w .0) (w .1) h g)
+    (ticked s)
+
+ticks-counted : (l : List Ask) (n : ℕ) (s : State) → Counted l s → Counted l (ticks n s)
+unfolding ticks
+ticks-counted l zero s h = h
+ticks-counted l (suc n) s h = ticks-counted l n (tick s) (tick-counted l s h)
+
+-- ---- calls
+
+opened-counted : (l : List Ask) (s : State) (t k a : ℕ) → s .clock ≡ t → k < 32 → at (s .owed) k ≡ 0 → Counted l s
+    → Sound (opened s k a) → Counted (l ++ record { time = t; task = k; amount = a } ∷ []) (opened s k a)
+unfolding opened
+opened-counted l s t k a c i z h g =
+    let q : Ask = record { time = t; task = k; amount = a } in
+    let inside : k < length (s .owed) = omega (arith, h .sound .owed32) in
+    record {
+      sound = g;
+      owed = omega (arith, h .owed, total-set (s .owed) k a inside, backlog-then l q (s .clock) c);
+      idle = omega (arith, h .idle, empty-before l q (s .clock) (omega arith));
+      each = λ j.
+          equal-or k j
+          (λ e. rw (← e) (omega (arith, sumOf-same amounts l q k refl, h .each k, at-set-same (s .owed) k a inside)))
+          (λ n. omega (arith, sumOf-other amounts l q j n, h .each j, at-set-other (s .owed) k a j (λ e. n (sym e))));
+      none-later = λ u d. omega (arith, sumAt-other amounts l q u (λ e. omega arith), h .none-later u d);
+    }
+
+request-counted : (l : List Ask) (s : State) (t k a : ℕ) → Requested s t k a → Counted l s
+    → Sound (opened (moved s t) k a)
+    → Counted (l ++ record { time = t; task = k; amount = a } ∷ []) (opened (moved s t) k a)
+unfolding moved
+request-counted l s t k a q h g =
+    opened-counted l (moved s t) t k a (moved-clock s t (q .later)) (omega (arith, q .task, h .sound .few)) (q .closed)
+    (ticks-counted l (t - s .clock) s h) g
+
+effect-counted : (l : List Ask) (s : State) (c : Call) → Counted l s → refusal s c ≡ 0 → Sound (effect s c)
+    → Counted (l ++ asks s c) (effect s c)
+unfolding effect refusal asks moved drained
+effect-counted l s (request t k a) h e g = request-counted l s t k a (request-accepted s t k a e) h g
+effect-counted l s (advance t) h e g = rw append-nil (ticks-counted l (t - s .clock) s h)
+effect-counted l s drain h e g = rw append-nil (ticks-counted l (total (s .owed)) s h)
+
+call-counted : (l : List Ask) (s : State) (c : Call) → Counted l s
+    → Counted (l ++ cond (eqb (refusal s c) 0) (asks s c) []) (call s c)
+unfolding call
+call-counted l s c h =
+    tested (eqb (refusal s c) 0)
+    (λ e. rw e
+    (effect-counted l s c h (eqb-true (refusal s c) 0 e)
+    (rw (cond-true (effect s c) s e) at (call-sound s c (h .sound)))))
+    (λ e. rw (e, append-nil) h)
+
+calls-counted : (l : List Ask) (s : State) (cs : List Call) → Counted l s → Counted (l ++ accepted s cs) (calls s cs)
+unfolding accepted calls
+calls-counted l s [] h = rw append-nil h
+calls-counted l s (c ∷ cs) h =
+    rw (← append-assoc)
+    (calls-counted (l ++ cond (eqb (refusal s c) 0) (asks s c) []) (call s c) cs (call-counted l s c h))
+
+fresh-counted : (p : Setup) → setupRefusal p ≡ 0 → Counted [] (fresh p)
+unfolding sumAt sumOf backlog emptyTicks total
+fresh-counted p e =
+    record {
+      sound = fresh-sound p e;
+      owed = refl;
+      idle = refl;
+      each = λ k. omega (arith, at-replicate 32 k);
+      none-later = λ t d. refl;
+    }
+
+-- ---- the theorem: any setup that is accepted, any sequence of calls, refused ones among them
+
+pub demand3 : (p : Setup) → setupRefusal p ≡ 0 → (cs : List Call)
+    → Accounted (accepted (fresh p) cs) (calls (fresh p) cs)
+demand3 p e cs =
+    let h = calls-counted [] (fresh p) cs (fresh-counted p e) in
+    record { owed = h .owed; idle = h .idle; each = h .each }

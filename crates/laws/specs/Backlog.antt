@@ -1,0 +1,62 @@
+-- Demand 3's count: from the accepted requests and the clock alone, with no word of the rule. In order: sums over
+-- requests, the backlog, the accepted requests of a sequence of calls, what demand 3 says. Assumes nothing.
+use Prim.Native.Nat.{ℕ, zero, suc, _+_, _-_}
+use mathlib.Core.Path.{_≡_}
+use mathlib.Core.Bool.{cond}
+use mathlib.Core.List.{List, [], _∷_, _++_}
+use lib.Dec.{eqb}
+use Rattle.lists.specs.Lists.{at, total}
+use Rattle.rule.specs.State.{State}
+use Rattle.rule.specs.Calls.{Call, request, advance, drain, refusal, call}
+
+-- an accepted request
+pub record Ask : Type 0 where
+  pub time : ℕ
+  pub task : ℕ
+  pub amount : ℕ
+
+-- ---- sums over requests, each of a number that a request has
+
+abbrev pub amounts : Ask → ℕ
+amounts q = q .amount
+
+-- over those made at time t
+unfoldable pub sumAt : (Ask → ℕ) → List Ask → ℕ → ℕ
+sumAt f [] t = 0
+sumAt f (q ∷ l) t = cond (eqb (q .time) t) (f q) 0 + sumAt f l t
+
+-- over those of task k
+unfoldable pub sumOf : (Ask → ℕ) → List Ask → ℕ → ℕ
+sumOf f [] k = 0
+sumOf f (q ∷ l) k = cond (eqb (q .task) k) (f q) 0 + sumOf f l k
+
+-- ---- the backlog
+
+-- with which the tick from t to t + 1 begins: what the tick before left of it, and the amounts added at t
+unfoldable pub backlog : List Ask → ℕ → ℕ
+backlog l zero = sumAt amounts l zero
+backlog l (suc t) = backlog l t - 1 + sumAt amounts l (suc t)
+
+-- how many of the ticks up to t began with none
+unfoldable pub emptyTicks : List Ask → ℕ → ℕ
+emptyTicks l zero = 0
+emptyTicks l (suc t) = emptyTicks l t + cond (eqb (backlog l t) 0) 1 0
+
+-- ---- the accepted requests of a sequence of calls
+
+-- what an accepted call on a state asks
+unfoldable pub asks : State → Call → List Ask
+asks s (request t k a) = record { time = t; task = k; amount = a } ∷ []
+asks s (advance t) = []
+asks s drain = []
+
+unfoldable pub accepted : State → List Call → List Ask
+accepted s [] = []
+accepted s (c ∷ cs) = cond (eqb (refusal s c) 0) (asks s c) [] ++ accepted (call s c) cs
+
+-- ---- what demand 3 says of a state whose accepted requests these are
+
+pub record Accounted (l : List Ask) (s : State) : Type 0 where
+  pub owed : total (s .owed) ≡ backlog l (s .clock)
+  pub idle : s .idle ≡ emptyTicks l (s .clock)
+  pub each : (k : ℕ) → sumOf amounts l k ≡ at (s .given) k + at (s .owed) k
