@@ -9,6 +9,7 @@ use Rattle.rule.specs.Readings.{doneAt, doneWithin, nextDone}
 use Rattle.rule.specs.Table.{completion, completions, unlessRefused, outcomeFrom, rows, columnRefusal, tableRefusal, tableFrom, table, written}
 use Rattle.rule.specs.Cases.{Said, Case, starred}
 use Rattle.rule.specs.Limits.{limits}
+use Rattle.rule.specs.Worked.{worked}
 
 abbrev AsSaid : List Case → Type 0
 AsSaid cases = map (λ (c : Case). c .found) cases ≡ map (λ (c : Case). c .said) cases
@@ -18,5 +19,9 @@ unfolding total without zeros sliceFits bytesFit setupRefusal before best chosen
 starred-hold = refl
 
 pub limits-hold : AsSaid limits
-unfolding total without zeros sliceFits bytesFit setupRefusal before best chosen overdue headBack turn usedMore give rest serve tickOn tick ticks moved drained opened effect requestRefusal advanceRefusal refusal call calls doneAt doneWithin nextDone completion completions unlessRefused outcomeFrom rows columnRefusal tableRefusal tableFrom table written
+unfolding total without zeros sliceFits bytesFit setupRefusal before best chosen overdue headBack turn usedMore give rest serve tickOn tick ticks moved drained opened effect requestRefusal advanceRefusal refusal call calls
 limits-hold = refl
+
+pub worked-hold : AsSaid worked
+unfolding total without zeros sliceFits bytesFit setupRefusal before best chosen overdue headBack turn usedMore give rest serve tickOn tick ticks moved drained opened effect requestRefusal advanceRefusal refusal call calls doneAt doneWithin nextDone completion completions unlessRefused outcomeFrom rows columnRefusal tableRefusal tableFrom table written
+worked-hold = refl

@@ -8,3 +8,4 @@ pub mod Table
 pub mod View
 pub mod Cases
 pub mod Limits
+pub mod Worked

@@ -1,15 +1,12 @@
--- The definitions at both sides of each limit, and in each order of two refusals, as one list of cases: a changed number,
--- comparison or order changes a case. In order: setups, requests and advances, what a refusal leaves, readings, tables.
--- Assumes nothing.
+-- Setups and calls at both sides of each limit, and in each order of two refusals, as one list of cases: a changed number,
+-- comparison or order changes a case. In order: setups, requests and advances, what a refusal leaves. Assumes nothing.
 use Prim.Native.Nat.{ℕ, _-_}
 use mathlib.Core.List.{List, [], _∷_, _++_}
 use lib.ListN.{replicate}
 use Rattle.rule.specs.Setups.{asked, setupRefusal}
 use Rattle.rule.specs.State.{State, fresh}
-use Rattle.rule.specs.Calls.{drained, Call, request, advance, drain, refusal, call, calls}
-use Rattle.rule.specs.Readings.{Reading, value, never, Soonest, nothing, done, owedOf, givenOf, completedOf, nextDone}
-use Rattle.rule.specs.Table.{Outcome, refused, finished, columnRefusal, tableRefusal, table, written}
-use Rattle.rule.specs.Cases.{Said, number, reads, next, comes, column, Case, robin, ranked, single}
+use Rattle.rule.specs.Calls.{Call, request, advance, drain, refusal, call, calls}
+use Rattle.rule.specs.Cases.{Said, number, Case, robin}
 use Rattle.rule.specs.declared.Setup.{Setup}
 
 -- ---- setups
@@ -42,7 +39,7 @@ setups =
 -- ---- requests and advances
 
 -- a run on which nothing was asked, with the clock at t
-abbrev idleAt : ℕ → State
+abbrev pub idleAt : ℕ → State
 idleAt t =
     record {
       setup = robin 2 1;
@@ -97,56 +94,5 @@ left =
     ∷ clocked (idleAt 4_032_000_000) drain 4_032_000_000
     ∷ []
 
--- ---- readings
-
--- case A's requests at 4: task 0 has had 3 ticks, task 1 has had 1
-abbrev atFour : State
-atFour = calls (fresh (robin 2 1)) (request 0 0 5 ∷ request 2 1 2 ∷ advance 4 ∷ [])
-
--- task 0 was done at 2 and asked again at 3
-abbrev askedAgain : State
-askedAgain = calls (fresh single) (request 0 0 2 ∷ request 3 0 4 ∷ [])
-
-abbrev reading : Reading → Reading → Case
-reading r e = record { found = reads r; said = reads e }
-
-abbrev nextIs : State → Soonest → Case
-nextIs s e = record { found = next (nextDone s); said = next e }
-
-abbrev readings : List Case
-readings =
-    reading (owedOf atFour 0) (value 2) ∷ reading (owedOf atFour 1) (value 1) ∷ reading (owedOf atFour 2) (Reading.refused 12)
-    ∷ reading (givenOf atFour 0) (value 3) ∷ reading (givenOf atFour 1) (value 1) ∷ reading (givenOf atFour 2) (Reading.refused 12)
-    ∷ reading (completedOf atFour 0) never ∷ reading (completedOf atFour 31) (Reading.refused 12)
-    ∷ reading (completedOf (drained atFour) 1) (value 5) ∷ reading (owedOf (drained atFour) 1) (value 0)
-    ∷ reading (completedOf askedAgain 0) (value 2) ∷ reading (givenOf askedAgain 0) (value 2) ∷ reading (owedOf askedAgain 0) (value 4)
-    ∷ nextIs atFour (done 1 5) ∷ nextIs (call atFour (advance 5)) (done 0 7) ∷ nextIs (drained atFour) nothing
-    ∷ nextIs askedAgain (done 0 7) ∷ nextIs (call (idleAt 4_000_000_000) (request 4_000_000_000 0 1)) (done 0 4_000_000_001)
-    ∷ []
-
--- ---- tables
-
-abbrev columns : ℕ → ℕ → ℕ → ℕ → ℕ → Case
-columns times tasks amounts room n =
-    record { found = number (tableRefusal single times tasks amounts room); said = number n }
-
-abbrev tables : List Case
-tables =
-    columns 0 0 0 0 0 ∷ columns 1_024 1_024 1_024 1_024 0 ∷ columns 1_024 1_024 1_024 2_000 0
-    ∷ columns 1 2 1 9 20 ∷ columns 1 1 2 9 20 ∷ columns 2 1 1 9 20
-    ∷ columns 1_025 1_025 1_025 2_000 21 ∷ columns 1_024 1_024 1_024 1_023 22
-    -- 20 before 21 before 22, and 1 to 4 before these
-    ∷ columns 1_025 1_025 1_024 0 20 ∷ columns 1_025 1_025 1_025 0 21
-    ∷ record { found = number (tableRefusal (robin 1 0) 1 2 3 0); said = number 3 }
-    -- 22 before rows; then the first refused row
-    ∷ record { found = comes (table single (0 ∷ []) (1 ∷ []) (1 ∷ []) 0); said = comes (refused 22 0) }
-    ∷ record { found = comes (table single (0 ∷ []) (1 ∷ []) (1 ∷ []) 1); said = comes (refused 12 1) }
-    ∷ record { found = comes (table single (0 ∷ 0 ∷ 0 ∷ []) (0 ∷ 0 ∷ 1 ∷ []) (1 ∷ 1 ∷ 1 ∷ []) 3); said = comes (refused 14 2) }
-    ∷ record { found = comes (table single [] [] [] 0); said = comes (finished [] 0) }
-    -- entries past the rows stay, and a refusal writes none
-    ∷ record { found = column (written (finished (7 ∷ 5 ∷ []) 7) (1 ∷ 2 ∷ 3 ∷ [])); said = column (7 ∷ 5 ∷ 3 ∷ []) }
-    ∷ record { found = column (written (refused 14 2) (1 ∷ 2 ∷ 3 ∷ [])); said = column (1 ∷ 2 ∷ 3 ∷ []) }
-    ∷ []
-
 abbrev pub limits : List Case
-limits = setups ++ timed ++ left ++ readings ++ tables
+limits = setups ++ timed ++ left
