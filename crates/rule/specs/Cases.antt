@@ -89,6 +89,9 @@ starred =
     ∷ gives (robin 3 1) (request 0 0 5 ∷ request 0 1 5 ∷ request 4 2 1 ∷ []) (10 ∷ 11 ∷ 6 ∷ []) 11
     -- a higher task waits for nobody, and the one below goes on where it was
     ∷ gives (ranked 7 3) (request 0 1 4 ∷ request 1 0 2 ∷ request 4 0 1 ∷ []) (7 ∷ 3 ∷ 5 ∷ []) 7
+    -- among equals the smaller number, and not whoever came later; a higher task, and not the smaller number
+    ∷ gives (ranked 9 9) (request 0 0 3 ∷ request 1 1 2 ∷ []) (3 ∷ 5 ∷ []) 5
+    ∷ gives (ranked 0 1) (request 0 1 3 ∷ request 1 0 2 ∷ []) (3 ∷ 5 ∷ []) 5
     -- ticks before, between and after the rows
     ∷ idles (ranked 7 3) (request 3 1 4 ∷ request 9 0 2 ∷ []) 5
     ∷ []

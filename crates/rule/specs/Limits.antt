@@ -3,7 +3,8 @@
 use Prim.Native.Nat.{ℕ, _-_}
 use mathlib.Core.List.{List, [], _∷_, _++_}
 use lib.ListN.{replicate}
-use Rattle.rule.specs.Setups.{asked, setupRefusal}
+use Rattle.lists.specs.Lists.{at}
+use Rattle.rule.specs.Setups.{asked, setupRefusal, plain}
 use Rattle.rule.specs.State.{State, fresh}
 use Rattle.rule.specs.Calls.{Call, request, advance, drain, refusal, call, calls}
 use Rattle.rule.specs.Cases.{Said, number, Case, robin}
@@ -59,6 +60,10 @@ answers s c n = record { found = number (refusal s c); said = number n }
 abbrev twoTicks : State
 twoTicks = calls (fresh (robin 2 1)) (request 0 0 2 ∷ [])
 
+-- task 0 was given the first two ticks
+abbrev busyTwo : State
+busyTwo = call twoTicks (advance 2)
+
 abbrev timed : List Case
 timed =
     answers (idleAt 4_000_000_000) (request 4_000_000_000 0 1) 0
@@ -67,6 +72,7 @@ timed =
     ∷ answers (idleAt 4_000_000_000) (advance 4_000_000_001) 10
     ∷ answers (idleAt 5) (request 4 0 1) 11 ∷ answers (idleAt 5) (request 5 0 1) 0
     ∷ answers (idleAt 5) (advance 4) 11 ∷ answers (idleAt 5) (advance 5) 0
+    ∷ answers busyTwo (request 1 0 1) 11 ∷ answers busyTwo (advance 1) 11
     ∷ answers (idleAt 0) (request 0 1 1) 0 ∷ answers (idleAt 0) (request 0 2 1) 12
     ∷ answers (idleAt 0) (request 0 0 0) 13 ∷ answers (idleAt 0) (request 0 0 1) 0
     ∷ answers (idleAt 0) (request 0 0 1_000_000) 0 ∷ answers (idleAt 0) (request 0 0 1_000_001) 13
@@ -87,9 +93,20 @@ timed =
 abbrev clocked : State → Call → ℕ → Case
 clocked s c t = record { found = number (call s c .clock); said = number t }
 
+-- task 0 had one tick, and then nothing was open until 10
+abbrev oneThenIdle : Setup → State
+oneThenIdle p = calls (fresh p) (request 0 0 1 ∷ advance 10 ∷ [])
+
+abbrev leaves : ℕ → ℕ → Case
+leaves n e = record { found = number n; said = number e }
+
 abbrev left : List Case
 left =
-    clocked twoTicks (request 1 0 1) 0 ∷ clocked twoTicks (request 2 0 1) 2
+    leaves (oneThenIdle (robin 2 1) .used) 0 ∷ leaves (at (oneThenIdle (robin 2 1) .given) 0) 1
+    ∷ leaves (at (oneThenIdle (robin 2 1) .done) 0) 1 ∷ leaves (oneThenIdle (robin 2 1) .idle) 9
+    ∷ leaves (call (calls (fresh plain) (request 0 0 5 ∷ [])) (advance 2) .used) 0
+    ∷ leaves (setupRefusal plain) 0
+    ∷ clocked twoTicks (request 1 0 1) 0 ∷ clocked twoTicks (request 2 0 1) 2
     ∷ clocked twoTicks (advance 4_000_000_001) 0 ∷ clocked twoTicks drain 2
     ∷ clocked (idleAt 4_032_000_000) drain 4_032_000_000
     ∷ []
