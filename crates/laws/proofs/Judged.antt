@@ -51,6 +51,15 @@ judged-cons {P} rs b m x n test more =
           (λ w. cond-false m x e ∙ more no .1 (w .1)),
     ))
 
+-- a list of reasons gives one number
+pub judged-unique : (rs : List Reason) (m n : ℕ) → Judged rs m → Judged rs n → m ≡ n
+unfolding Judged
+judged-unique [] m n j k = j ∙ sym k
+judged-unique (r ∷ rs) m n (inl j) (inl k) = j .1 ∙ sym (k .1)
+judged-unique (r ∷ rs) m n (inl j) (inr k) = absurd (k .0 (j .0))
+judged-unique (r ∷ rs) m n (inr j) (inl k) = absurd (j .0 (k .0))
+judged-unique (r ∷ rs) m n (inr j) (inr k) = judged-unique rs m n (j .1) (k .1)
+
 -- Any list of tests: `first` gives the number of the first that holds, and 0 where none does.
 pub first-judged : (rs : List Refusal) (n : ℕ)
     → (first rs ≡ n) ↔ Judged (map (λ (r : Refusal). reason (r .number) (r .holds ≡ true)) rs) n
