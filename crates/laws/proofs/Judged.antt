@@ -1,5 +1,5 @@
--- Demand 1's numbers: a setup and a call are refused exactly when the listed reason holds and none before it does, and
--- accepted where none holds. In order: one more reason, the tests of a setup, the lists. Assumes nothing.
+-- Demand 1's numbers: a setup, a table and a call are refused exactly when a listed reason holds and none before it
+-- does, and accepted where none holds. In order: lists of reasons, what the tests mean, the lists. Assumes nothing.
 use Prim.Native.Nat.{ℕ, suc, _+_, _-_, _≤_, _<_}
 use native.Mathlib.Omega.{arith}
 use mathlib.Core.Path.{_≡_, refl, sym, ap, _∙_}
@@ -23,7 +23,7 @@ use Rattle.laws.specs.Accepted.{clearFrom}
 use Rattle.laws.specs.Reasons.{Reason, reason, Judged, PolicyUnknown, SliceUnfit, BytesUnfit, setupReasons, tableReasons, advanceReasons, requestReasons, reasons}
 use Rattle.laws.proofs.Refusals.{isPriority-true, isPriority-false}
 
--- ---- one more reason in front of a list
+-- ---- lists of reasons
 
 judged-nil : (n : ℕ) → (0 ≡ n) ↔ Judged [] n
 unfolding Judged
