@@ -101,17 +101,19 @@ best-ahead prio b (x ∷ xs) k h =
     (λ e. rw e (ahead-trans prio (best prio first xs) first x on (before-ahead prio b x .1)))
     (λ m. best-ahead prio first xs k (omega (arith, same-other k b n, same-other k x m))))
 
+best-foremost : (prio : List ℕ) (b : ℕ) (ks : List ℕ) → Foremost prio (b ∷ ks) (best prio b ks)
+best-foremost prio b ks =
+    record {
+      stands = best-member prio b ks;
+      greatest = λ k m. best-ahead prio b ks k m .greater;
+      smaller = λ k m e. best-ahead prio b ks k m .smaller e;
+    }
+
 pub chosen-foremost : (p : Setup) (q : List ℕ) → isPriority p ≡ true → 0 < length q
     → Foremost (p .priority) q (chosen p q)
 unfolding chosen
 chosen-foremost p [] e h = absurd (not-suc-le-zero h)
-chosen-foremost p (x ∷ xs) e h =
-    rw e
-    record {
-      stands = best-member (p .priority) x xs;
-      greatest = λ k m. best-ahead (p .priority) x xs k m .greater;
-      smaller = λ k m. best-ahead (p .priority) x xs k m .smaller;
-    }
+chosen-foremost p (x ∷ xs) e h = rw e (best-foremost (p .priority) x xs)
 
 pub foremost-unique : (prio q : List ℕ) (a b : ℕ) → Foremost prio q a → Foremost prio q b → a ≡ b
 foremost-unique prio q a b f g =

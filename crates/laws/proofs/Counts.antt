@@ -1,9 +1,13 @@
--- Demand 3's count on runs worked by hand, computed from their requests alone: what a changed definition would change.
--- Assumes nothing.
+-- Demand 3's count on runs worked by hand, computed from their requests alone. Assumes nothing.
 use Prim.Native.Nat.{ℕ}
 use mathlib.Core.Path.{_≡_, refl}
 use mathlib.Core.List.{List, [], _∷_, map}
-use Rattle.laws.specs.Backlog.{Ask, amounts, sumAt, sumOf, backlog, emptyTicks}
+use Rattle.lists.specs.Lists.{without}
+use Rattle.rule.specs.State.{fresh}
+use Rattle.rule.specs.Tick.{chosen, overdue, headBack, turn, usedMore, give, rest, serve, tickOn, tick, ticks}
+use Rattle.rule.specs.Calls.{moved, opened, request, effect, requestRefusal, refusal, call}
+use Rattle.rule.specs.Cases.{robin}
+use Rattle.laws.specs.Backlog.{Ask, amounts, sumAt, sumOf, backlog, emptyTicks, asks, accepted}
 
 abbrev ask : ℕ → ℕ → ℕ → Ask
 ask t k a = record { time = t; task = k; amount = a }
@@ -30,3 +34,8 @@ emptyTicks-F = refl
 sumOf-A : map (sumOf amounts runA) (0 ∷ 1 ∷ 2 ∷ []) ≡ (5 ∷ 2 ∷ 0 ∷ [])
 unfolding sumOf
 sumOf-A = refl
+
+-- I: "row 2 refused 14", so that only row 1 counts
+accepted-I : accepted (fresh (robin 1 7)) (request 0 0 2 ∷ request 1 0 1 ∷ []) ≡ ask 0 0 2 ∷ []
+unfolding without chosen overdue headBack turn usedMore give rest serve tickOn tick ticks moved opened effect requestRefusal refusal call asks accepted
+accepted-I = refl

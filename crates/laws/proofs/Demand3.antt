@@ -71,7 +71,9 @@ module _ (l : List Ask) (q : Ask) where
   empty-before : (t : ℕ) → t ≤ q .time → emptyTicks (l ++ q ∷ []) t ≡ emptyTicks l t
   unfolding emptyTicks
   empty-before zero h = refl
-  empty-before (suc t) h = rw (backlog-before t (omega arith)) (omega (arith, empty-before t (omega arith)))
+  empty-before (suc t) h =
+      let same : backlog (l ++ q ∷ []) t ≡ backlog l t = backlog-before t (omega arith) in
+      omega (arith, ap (λ (n : ℕ). cond {A = ℕ} (eqb n 0) 1 0) same, empty-before t (omega arith))
 
 -- ---- one tick on, where nothing is added at its end
 

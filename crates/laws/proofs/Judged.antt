@@ -1,5 +1,5 @@
--- Demand 1's numbers: a setup and a call are refused exactly when the listed reason holds and none before it does, and
--- accepted where none holds. In order: one more reason, the tests of a setup, the lists. Assumes nothing.
+-- Demand 1's numbers: a setup, a table and a call are refused exactly when a listed reason holds and none before it
+-- does, and accepted where none holds. In order: lists of reasons, what the tests mean, the lists. Assumes nothing.
 use Prim.Native.Nat.{ℕ, suc, _+_, _-_, _≤_, _<_}
 use native.Mathlib.Omega.{arith}
 use mathlib.Core.Path.{_≡_, refl, sym, ap, _∙_}
@@ -23,7 +23,7 @@ use Rattle.laws.specs.Accepted.{clearFrom}
 use Rattle.laws.specs.Reasons.{Reason, reason, Judged, PolicyUnknown, SliceUnfit, BytesUnfit, setupReasons, tableReasons, advanceReasons, requestReasons, reasons}
 use Rattle.laws.proofs.Refusals.{isPriority-true, isPriority-false}
 
--- ---- one more reason in front of a list
+-- ---- lists of reasons
 
 judged-nil : (n : ℕ) → (0 ≡ n) ↔ Judged [] n
 unfolding Judged
@@ -50,6 +50,15 @@ judged-cons {P} rs b m x n test more =
           (λ w. absurd (no (w .0)))
           (λ w. cond-false m x e ∙ more no .1 (w .1)),
     ))
+
+-- a list of reasons gives one number
+pub judged-unique : (rs : List Reason) (m n : ℕ) → Judged rs m → Judged rs n → m ≡ n
+unfolding Judged
+judged-unique [] m n j k = j ∙ sym k
+judged-unique (r ∷ rs) m n (inl j) (inl k) = j .1 ∙ sym (k .1)
+judged-unique (r ∷ rs) m n (inl j) (inr k) = absurd (k .0 (j .0))
+judged-unique (r ∷ rs) m n (inr j) (inl k) = absurd (j .0 (k .0))
+judged-unique (r ∷ rs) m n (inr j) (inr k) = judged-unique rs m n (j .1) (k .1)
 
 -- Any list of tests: `first` gives the number of the first that holds, and 0 where none does.
 pub first-judged : (rs : List Refusal) (n : ℕ)

@@ -1,5 +1,5 @@
-pub mod Sound
 pub mod Foremost
+pub mod Sound
 pub mod Accepted
 pub mod Reasons
 pub mod Backlog
