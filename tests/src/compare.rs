@@ -127,9 +127,10 @@ pub fn log<T: Replay, E: Replay>(tested: &T, expected: &E, log: &[u8]) -> Result
     same(|| "judge".into(), tested.judge(log), expected.judge(log))?;
     let [found, wanted] = [tested.report(log), expected.report(log)].map(|text| String::from_utf8_lossy(&text).into_owned());
     if found != wanted {
-        let line = found.lines().zip(wanted.lines()).take_while(|(a, b)| a == b).count();
-        let [found, wanted] = [&found, &wanted].map(|text| text.lines().nth(line).unwrap_or("(no line)"));
-        return Err(format!("line {} of the text: found `{found}`, expected `{wanted}`", line + 1));
+        let [found, wanted] = [&found, &wanted].map(|text| text.split_inclusive('\n'));
+        let line = found.clone().zip(wanted.clone()).take_while(|(a, b)| a == b).count();
+        let [found, wanted] = [found, wanted].map(|mut lines| lines.nth(line));
+        return Err(format!("line {} of the text: found {found:?}, expected {wanted:?}", line + 1));
     }
     Ok(())
 }

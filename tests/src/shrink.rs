@@ -1,6 +1,6 @@
 //! A failing case is made as small as it goes and printed with its seed.
 
-use crate::gen::{CallCase, LogCase, TableCase};
+use crate::gen::{CallCase, Damage, LogCase, TableCase};
 use crate::{Call, Row, Setup};
 use std::fmt::Write;
 
@@ -11,26 +11,34 @@ pub trait Case: Clone {
     fn shown(&self) -> String;
 }
 
-/// Tests the case; where the test fails, panics with the smallest failing case that single steps reach.
+/// Panics with the smallest failing case where the test fails.
 pub fn hold<C: Case>(what: &str, seed: u64, case: &C, test: impl Fn(&C) -> Result<(), String>) {
-    if test(case).is_ok() {
-        return;
+    if let Some(failure) = failure(what, seed, case, test) {
+        panic!("{failure}");
     }
+}
+
+/// Tests the case; where the test fails, tells the fault and the smallest failing case with its seed.
+pub fn failure<C: Case>(what: &str, seed: u64, case: &C, test: impl Fn(&C) -> Result<(), String>) -> Option<String> {
+    test(case).err()?;
     let small = smallest(case, |case| test(case).is_err());
     let fault = test(&small).expect_err("the smallest case fails");
-    panic!("{what}, seed {seed}: {fault}\n# seed {seed}\n{}", small.shown());
+    Some(format!("{what}: {fault}\n# seed {seed}\n{}", small.shown()))
 }
+
+/// How many cases are tried before what is reached counts as small.
+const MOST_TRIED: u32 = 4_000;
 
 /// The smallest case that still fails, reached by single steps.
 pub fn smallest<C: Case>(case: &C, fails: impl Fn(&C) -> bool) -> C {
     let mut small = case.clone();
-    let mut steps = 0;
-    while let Some(next) = small.smaller().into_iter().find(|next| fails(next)) {
+    let mut tried = 0;
+    let mut still_fails = |next: &C| {
+        tried += 1;
+        tried <= MOST_TRIED && fails(next)
+    };
+    while let Some(next) = small.smaller().into_iter().find(|next| still_fails(next)) {
         small = next;
-        steps += 1;
-        if steps == 2_000 {
-            break;
-        }
     }
     small
 }
@@ -64,11 +72,12 @@ fn rows_below(row: Row) -> Vec<Row> {
     below
 }
 
-/// Lists with a stretch left out, longest stretches first, then with one entry made smaller.
+/// Lists with a stretch left out, longest stretches first, then with one entry made smaller. From a long list only long
+/// stretches are left out, until it is short.
 fn lists_below<T: Clone>(list: &[T], below: impl Fn(&T) -> Vec<T>) -> Vec<Vec<T>> {
     let mut smaller = Vec::new();
     let mut stretch = list.len();
-    while stretch > 0 {
+    while stretch > list.len() / 64 {
         for start in (0..list.len()).step_by(stretch) {
             let mut rest = list[..start].to_vec();
             rest.extend_from_slice(&list[(start + stretch).min(list.len())..]);
@@ -76,7 +85,7 @@ fn lists_below<T: Clone>(list: &[T], below: impl Fn(&T) -> Vec<T>) -> Vec<Vec<T>
         }
         stretch /= 2;
     }
-    for at in 0..list.len() {
+    for at in 0..if list.len() < 64 { list.len() } else { 0 } {
         for entry in below(&list[at]) {
             let mut changed = list.to_vec();
             changed[at] = entry;
@@ -170,7 +179,12 @@ impl Case for TableCase {
 impl Case for LogCase {
     fn smaller(&self) -> Vec<LogCase> {
         let mut smaller = Vec::new();
-        for damages in lists_below(&self.damages, |_| Vec::new()) {
+        let in_earlier_blocks = |damage: &Damage| match *damage {
+            Damage::Byte { block, at, add } if block > 0 => vec![Damage::Byte { block: block / 2, at, add }],
+            Damage::Word { block, word, value } if block > 0 => vec![Damage::Word { block: block / 2, word, value }],
+            _ => Vec::new(),
+        };
+        for damages in lists_below(&self.damages, in_earlier_blocks) {
             smaller.push(LogCase { damages, ..self.clone() });
         }
         for rows in lists_below(&self.rows, |&row| rows_below(row)) {

@@ -16,6 +16,8 @@ enum Mistake {
     UsedCarried,
     /// "Calling a task open at the very instant it is done."
     OpenWhenDone,
+    /// "Keeping a finished task in the priority choice": it goes on to get ticks that nobody owes it.
+    FinishedServed,
     /// The greater task number among equals.
     GreaterAmongEquals,
     /// The smallest priority number is served.
@@ -26,18 +28,19 @@ enum Mistake {
     LatestForAllRows,
 }
 
-const ALL: [Mistake; 8] = [
+const ALL: [Mistake; 9] = [
     Mistake::SliceAnew,
     Mistake::HeadBackAtOnce,
     Mistake::UsedCarried,
     Mistake::OpenWhenDone,
+    Mistake::FinishedServed,
     Mistake::GreaterAmongEquals,
     Mistake::SmallestServed,
     Mistake::LoneSliceGrows,
     Mistake::LatestForAllRows,
 ];
 
-/// A tick-by-tick replay with the mistake: the completions, or the refused row.
+/// A tick-by-tick replay with the mistake: the completions, or the refused row, or 0 where it would never end.
 fn wrong(mistake: Mistake, setup: &Setup, rows: &[Row]) -> Result<Vec<u32>, usize> {
     let slice = setup.slice;
     let (mut clock, mut used, mut queue) = (0, 0, Vec::<usize>::new());
@@ -45,10 +48,15 @@ fn wrong(mistake: Mistake, setup: &Setup, rows: &[Row]) -> Result<Vec<u32>, usiz
     let mut result = vec![0; rows.len()];
     let end = Row { time: u32::MAX, task: 0, amount: 0 };
     for (i, row) in rows.iter().chain([&end]).enumerate() {
-        while clock < row.time && !(queue.is_empty() && i == rows.len()) {
-            if queue.is_empty() {
-                clock = row.time;
+        while clock < row.time {
+            if owed == [0; 32] {
+                if i < rows.len() {
+                    clock = row.time;
+                }
                 break;
+            }
+            if i == rows.len() && clock > rows[i - 1].time.saturating_add(2_000_000) {
+                return Err(0);
             }
             if setup.policy == 2 && used >= slice && !(mistake == Mistake::LoneSliceGrows && queue.len() == 1) {
                 queue.rotate_left(1);
@@ -64,9 +72,14 @@ fn wrong(mistake: Mistake, setup: &Setup, rows: &[Row]) -> Result<Vec<u32>, usiz
             let task = queue[place];
             clock += 1;
             used += 1;
+            if owed[task] == 0 {
+                continue;
+            }
             owed[task] -= 1;
             if owed[task] == 0 {
-                queue.remove(place);
+                if mistake != Mistake::FinishedServed || setup.policy == 2 {
+                    queue.remove(place);
+                }
                 done[task] = clock;
                 result[row_of[task]] = clock;
                 if mistake != Mistake::UsedCarried {
@@ -90,6 +103,7 @@ fn wrong(mistake: Mistake, setup: &Setup, rows: &[Row]) -> Result<Vec<u32>, usiz
         }
         owed[task] = row.amount;
         row_of[task] = i;
+        queue.retain(|&other| other != task);
         queue.push(task);
     }
     if mistake == Mistake::LatestForAllRows {
@@ -102,9 +116,9 @@ fn wrong(mistake: Mistake, setup: &Setup, rows: &[Row]) -> Result<Vec<u32>, usiz
 
 fn right(case: &TableCase) -> Option<Result<Vec<u32>, usize>> {
     let columns = Columns { times: &case.times, tasks: &case.tasks, amounts: &case.amounts };
-    let mut result = vec![0; case.times.len()];
+    let mut result = vec![0; case.room];
     match Jumps.table(&case.setup, columns, &mut result) {
-        Ok(_) => Some(Ok(result)),
+        Ok(_) => Some(Ok(result[..case.times.len()].to_vec())),
         Err(refusal) if refusal.number == 14 || refusal.number == 11 => Some(Err(refusal.place as usize)),
         Err(_) => None,
     }
@@ -123,6 +137,9 @@ fn documents_wrong_numbers() {
     assert_eq!(wrong(Mistake::HeadBackAtOnce, &robin(2, 1), &case_a), Ok(vec![7, 6]));
     assert_eq!(wrong(Mistake::OpenWhenDone, &robin(1, 1), &case_j), Err(2));
     assert_eq!(wrong(Mistake::GreaterAmongEquals, &Setup::priority(&[0, 0]), &case_e), Ok(vec![3, 5]));
+    let two = [Setup::priority(&[0, 1]), Setup::priority(&[1, 0])];
+    assert_eq!(wrong(Mistake::FinishedServed, &two[0], &case_a), Err(0));
+    assert_eq!(wrong(Mistake::FinishedServed, &two[1], &case_a), Err(0));
     // H with an advance to 2, for which a request of a third task stands here.
     let case_h = rows(&[(0, 0, 4), (0, 1, 3), (2, 2, 1)]);
     assert_eq!(wrong(Mistake::SliceAnew, &robin(3, 3), &case_h), Ok(vec![4, 7, 8]));
