@@ -2,7 +2,7 @@
 
 use crate::gen::{CallCase, LogCase, TableCase};
 use crate::oracle;
-use crate::{Call, Columns, Replay, Row};
+use crate::{Call, Columns, Replay, Row, LAST_TIME};
 use std::fmt::Debug;
 
 /// Everything that can be read from a run.
@@ -74,8 +74,29 @@ pub fn accounted(accepted: &[Row], readings: &Readings) -> Result<(), String> {
     Ok(())
 }
 
+/// What the next reading says comes true: no completion before its instant, and at it that of its task alone.
+fn next_comes_true<R: Replay>(replay: &R, run: &R::Run, now: &Readings) -> Result<(), String> {
+    let Some((task, at)) = now.next.filter(|&(_, at)| at <= LAST_TIME) else { return Ok(()) };
+    let completions = |time: u32| {
+        let mut ahead = run.clone();
+        replay
+            .advance(&mut ahead, time)
+            .map(|()| (0..32).map(|task| replay.completed(&ahead, task)).collect::<Vec<_>>())
+    };
+    let mut expected: Vec<_> = now.tasks[..32].iter().map(|entry| entry.completed).collect();
+    same(|| "completions before the next".into(), completions(at - 1), Ok(expected.clone()))?;
+    expected[task as usize] = Ok(Some(at));
+    same(|| "completions at the next".into(), completions(at), Ok(expected))
+}
+
+/// "The clock moves by exactly the ticks owed", and nothing is open then.
+fn drained(before: &Readings, after: &Readings) -> Result<(), String> {
+    same(|| "clock after a drain".into(), after.clock, before.clock + before.total_owed)?;
+    same(|| "open after a drain".into(), (after.total_owed, after.next), (0, None))
+}
+
 /// Makes the calls on both. After every call the answers and all readings are the same, a refused call has changed no
-/// reading, and the accepted requests account for the readings.
+/// reading, the accepted requests account for the readings, and the next reading comes true.
 pub fn calls<T: Replay, E: Replay>(tested: &T, expected: &E, case: &CallCase) -> Result<(), String> {
     let (mut run, mut model) = match (tested.setup(&case.setup), expected.setup(&case.setup)) {
         (Ok(run), Ok(model)) => (run, model),
@@ -93,16 +114,18 @@ pub fn calls<T: Replay, E: Replay>(tested: &T, expected: &E, case: &CallCase) ->
         match (answer, call) {
             (Err(_), _) => same_readings(what, after.clone(), before)?,
             (Ok(()), Call::Request(row)) => accepted.push(row),
+            (Ok(()), Call::Drain) => drained(&before, &after)?,
             _ => {}
         }
-        accounted(&accepted, &after).map_err(|fault| format!("{}: {fault}", what()))?;
+        let kept = accounted(&accepted, &after).and_then(|()| next_comes_true(tested, &run, &after));
+        kept.map_err(|fault| format!("{}: {fault}", what()))?;
         before = after;
     }
     Ok(())
 }
 
-/// Replays the table on both, over a result column that holds other numbers before. The tested replay's calls give the same
-/// refusal and end as its table.
+/// Replays the table on both, over a result column that holds other numbers before. The tested replay's calls give
+/// the same end as its table.
 pub fn table<T: Replay, E: Replay>(tested: &T, expected: &E, case: &TableCase) -> Result<(), String> {
     let columns = Columns { times: &case.times, tasks: &case.tasks, amounts: &case.amounts };
     let before: Vec<u32> = (0..case.room as u32).map(|i| 0xA5A5_0000 + i).collect();
@@ -125,7 +148,8 @@ pub fn table<T: Replay, E: Replay>(tested: &T, expected: &E, case: &TableCase) -
 /// Judges and prints the log on both.
 pub fn log<T: Replay, E: Replay>(tested: &T, expected: &E, log: &[u8]) -> Result<(), String> {
     same(|| "judge".into(), tested.judge(log), expected.judge(log))?;
-    let [found, wanted] = [tested.report(log), expected.report(log)].map(|text| String::from_utf8_lossy(&text).into_owned());
+    let [found, wanted] =
+        [tested.report(log), expected.report(log)].map(|text| String::from_utf8_lossy(&text).into_owned());
     if found != wanted {
         let [found, wanted] = [&found, &wanted].map(|text| text.split_inclusive('\n'));
         let line = found.clone().zip(wanted.clone()).take_while(|(a, b)| a == b).count();

@@ -126,8 +126,8 @@ fn settled(refusal: u32, place: u32, number: u32) -> Result<u32, Refusal> {
     Err(Refusal { number: refusal, place })
 }
 
-// SAFETY, for all calls below: pointers and lengths are those of live slices, the result column is lent to the call alone, and every
-// run was made by `anduri_setup` and calls on it.
+// SAFETY, for all calls below: pointers and lengths are those of live slices, the result column is lent to the call
+// alone, and every run was made by `anduri_setup` and calls on it.
 impl Replay for Library {
     type Run = Run;
 

@@ -123,8 +123,8 @@ impl TableCase {
     }
 }
 
-/// Draws calls whose times fall on and beside the instants at which something happens. The run that finds these instants
-/// only steers what is drawn.
+/// Draws calls whose times fall on and beside the instants at which something happens. The run that finds these
+/// instants only steers what is drawn.
 struct Drawer<'a> {
     random: &'a mut Random,
     setup: Setup,
@@ -226,7 +226,7 @@ pub fn call_case(random: &mut Random, size: Size, most: u32) -> CallCase {
     CallCase { setup: drawer.setup, calls }
 }
 
-/// Up to `most` rows; most of these tables are taken, so rows that would be refused are drawn again with a small exception.
+/// Up to `most` drawn rows. Of those that would be refused only one in 40 stays, so that most tables are taken.
 fn rows_of(drawer: &mut Drawer, most: u32) -> Vec<Row> {
     let mut rows = Vec::new();
     for _ in 0..drawer.random.within(0, most) {
@@ -265,7 +265,8 @@ pub fn table_case(random: &mut Random, size: Size, most: u32) -> TableCase {
 
 /// Writes the rows as a log, without judging anything: more than 1,024 rows make more blocks.
 pub fn log_of(setup: &Setup, rows: &[Row]) -> Vec<u8> {
-    let mut head: Vec<u8> = [0, setup.policy, setup.count, setup.slice].iter().flat_map(|word| word.to_le_bytes()).collect();
+    let mut head: Vec<u8> =
+        [0, setup.policy, setup.count, setup.slice].iter().flat_map(|word| word.to_le_bytes()).collect();
     head.extend(&setup.priorities);
     head.resize(BLOCK, 0);
     let mut log = head;
@@ -355,11 +356,31 @@ fn draw_damage(random: &mut Random, blocks: usize) -> Damage {
         6 => Damage::Word { block: 0, word: 2, value: random.of(&[0, 1, 32, 33, u32::MAX]) },
         7 => Damage::Word { block: 0, word: 3, value: random.of(&[0, 1, 65_535, 65_536, u32::MAX]) },
         8 => Damage::Byte { block: 0, at: random.within(16, 47) as usize, add },
-        9 => Damage::Word { block: record_block, word: 1, value: random.of(&[0, 1, 40, 41, 42, 43, 357_913_942, u32::MAX]) },
+        9 => Damage::Word {
+            block: record_block,
+            word: 1,
+            value: random.of(&[0, 1, 40, 41, 42, 43, 357_913_942, u32::MAX]),
+        },
         10 => Damage::Byte { block: record_block, at: random.of(&[488, 499, 500, 504, 507]), add },
-        11 => Damage::Length(random.of(&[0, 1, 511, 512, 513, BLOCK * blocks - 1, BLOCK * blocks + 1, BLOCK * (blocks + 1), 13_312, 13_313, 13_824])),
+        11 => Damage::Length(random.of(&[
+            0,
+            1,
+            511,
+            512,
+            513,
+            BLOCK * blocks - 1,
+            BLOCK * blocks + 1,
+            BLOCK * (blocks + 1),
+            13_312,
+            13_313,
+            13_824,
+        ])),
         12 => Damage::Swap(block, record_block),
-        _ => Damage::Word { block: record_block, word: random.within(2, 124) as usize, value: random.of(&[0, 1, LAST_TIME + 1, u32::MAX]) },
+        _ => Damage::Word {
+            block: record_block,
+            word: random.within(2, 124) as usize,
+            value: random.of(&[0, 1, LAST_TIME + 1, u32::MAX]),
+        },
     }
 }
 
@@ -403,7 +424,8 @@ pub fn log_case(random: &mut Random) -> LogCase {
         setup.priorities.resize(32, 0);
     }
     let blocks = 1 + rows.len().div_ceil(41);
-    let mut damages: Vec<Damage> = (0..random.of(&[0, 0, 1, 1, 1, 2, 3])).map(|_| draw_damage(random, blocks)).collect();
+    let mut damages: Vec<Damage> =
+        (0..random.of(&[0, 0, 1, 1, 1, 2, 3])).map(|_| draw_damage(random, blocks)).collect();
     if !damages.is_empty() && random.once_in(2) {
         damages.push(Damage::Repair);
     }

@@ -1,8 +1,8 @@
 //! A second replay that goes from change to change, for amounts at which the oracle is too slow.
 //!
-//! It differs from the oracle in every part: given and idle ticks come from what was asked, the served task from an ordered
-//! set or a ring, the next completion under round robin from counting turns, a row's completion from an event, and a
-//! log's refusal from the list of all its faults.
+//! It differs from the oracle in every part: given and idle ticks come from what was asked, the served task from an
+//! ordered set or a ring, the next completion under round robin from counting turns, a row's completion from an event,
+//! and a log's refusal from the list of all its faults.
 
 use crate::{Columns, Refusal, Replay, Row, Setup, BLOCK, LAST_TIME, MOST_AMOUNT, MOST_ROWS};
 use std::cmp::Reverse;
@@ -136,8 +136,8 @@ impl Run {
     }
 }
 
-/// The next completion under round robin. Until it comes the queue only turns round: a task owing n ticks needs so many turns
-/// that they hold n, and the fewest turns win, then the place in the queue.
+/// The next completion under round robin. Until it comes the queue only turns round: a task owing n ticks needs so
+/// many turns that they hold n, and the fewest turns win, then the place in the queue.
 fn next_by_turns(run: &Run, queue: &VecDeque<u32>, left: u32) -> Option<(u32, u32)> {
     let slice = u64::from(run.setup.slice);
     let mut tasks: Vec<u32> = queue.iter().copied().collect();

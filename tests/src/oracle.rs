@@ -1,8 +1,11 @@
 //! Document 01 tick by tick, slow and obvious: setups, the rule, calls, readings, tables, logs, the printed text.
 //!
-//! One shortcut: ticks at which nothing is open are passed in one step, since they change only the clock and the idle ticks.
+//! One shortcut: ticks at which nothing is open are passed in one step, since they change only the clock and the idle
+//! ticks.
 
-use crate::{Columns, Refusal, Replay, Row, Setup, BLOCK, BLOCK_RECORDS, LAST_TIME, MOST_AMOUNT, MOST_BLOCKS, MOST_ROWS};
+use crate::{
+    Columns, Refusal, Replay, Row, Setup, BLOCK, BLOCK_RECORDS, LAST_TIME, MOST_AMOUNT, MOST_BLOCKS, MOST_ROWS,
+};
 use std::ops::Range;
 
 pub struct Oracle;

@@ -78,17 +78,47 @@ pub fn damaged() -> Vec<Damaged> {
     add("records_one_fewer", &[Word { block: 2, word: 1, value: 18 }, Repair], 33, 2);
     add("records_42", &[Word { block: 1, word: 1, value: 42 }, Repair], 33, 1);
     add("records_wrap_12_times", &[Word { block: 2, word: 1, value: 357_913_960 }, Repair], 33, 2);
-    add("records_40_before_last", &[Word { block: 1, word: 1, value: 40 }, Word { block: 1, word: 122, value: 0 }, Word { block: 1, word: 124, value: 0 }, Repair], 33, 1);
+    add(
+        "records_40_before_last",
+        &[
+            Word { block: 1, word: 1, value: 40 },
+            Word { block: 1, word: 122, value: 0 },
+            Word { block: 1, word: 124, value: 0 },
+            Repair,
+        ],
+        33,
+        1,
+    );
     add("first_unused_byte", &[Byte { block: 2, at: 236, add: 1 }, Repair], 33, 2);
     add("last_unused_byte", &[Byte { block: 2, at: 499, add: 1 }, Repair], 33, 2);
     add("byte_500", &[Byte { block: 1, at: 500, add: 1 }, Repair], 33, 1);
     add("byte_507", &[Byte { block: 2, at: 507, add: 1 }, Repair], 33, 2);
     add("one_record_more", &[Word { block: 2, word: 1, value: 20 }, Repair], 11, 61);
-    add("setup_before_block_1_check", &[Word { block: 0, word: 2, value: 0 }, Repair, Byte { block: 1, at: 508, add: 1 }], 2, 0);
-    add("layout_before_setup", &[Word { block: 0, word: 1, value: 9 }, Byte { block: 0, at: 507, add: 1 }, Repair], 33, 0);
-    add("place_before_layout", &[Word { block: 1, word: 0, value: 7 }, Word { block: 1, word: 1, value: 0 }, Repair], 32, 1);
+    add(
+        "setup_before_block_1_check",
+        &[Word { block: 0, word: 2, value: 0 }, Repair, Byte { block: 1, at: 508, add: 1 }],
+        2,
+        0,
+    );
+    add(
+        "layout_before_setup",
+        &[Word { block: 0, word: 1, value: 9 }, Byte { block: 0, at: 507, add: 1 }, Repair],
+        33,
+        0,
+    );
+    add(
+        "place_before_layout",
+        &[Word { block: 1, word: 0, value: 7 }, Word { block: 1, word: 1, value: 0 }, Repair],
+        32,
+        1,
+    );
     add("check_before_place", &[Word { block: 1, word: 0, value: 7 }], 31, 1);
-    add("block_1_before_block_2", &[Byte { block: 1, at: 500, add: 1 }, Repair, Byte { block: 2, at: 508, add: 1 }], 33, 1);
+    add(
+        "block_1_before_block_2",
+        &[Byte { block: 1, at: 500, add: 1 }, Repair, Byte { block: 2, at: 508, add: 1 }],
+        33,
+        1,
+    );
     add("log_before_rows", &[Word { block: 1, word: 4, value: 0 }, Repair, Byte { block: 2, at: 508, add: 1 }], 31, 2);
     add("row_over_the_whole_log", &[Word { block: 2, word: 2 + 3 * 18 + 2, value: 0 }, Repair], 13, 60);
     add("time_of_any_size_is_layout", &[Word { block: 2, word: 2, value: u32::MAX }, Repair], 10, 42);
@@ -128,7 +158,8 @@ pub fn vectors() -> Vec<Vector> {
     let last = rows(&all);
     let one_after_other = (1..=32).map(|i| 4_000_000_000 + 1_000_000 * i).collect();
     let text = text_of(&last, &Ok((one_after_other, 4_032_000_000)));
-    let source = "document 01, a drain carries the clock to at most 4,032,000,000; equal priorities, one after the other";
+    let source =
+        "document 01, a drain carries the clock to at most 4,032,000,000; equal priorities, one after the other";
     add("latest_end", log_of(&Setup::priority(&[0; 32]), &last), text, source);
     let zero_record = rows(&[(0, 0, 1), (0, 0, 0)]);
     let mut short = log_of(&one, &zero_record);
@@ -144,7 +175,12 @@ pub fn vectors() -> Vec<Vector> {
         }
         let text = text_of(&[], &Err(each.refusal));
         let shown: Vec<String> = each.damages.iter().map(|step| format!("{step:?}")).collect();
-        add(&format!("damaged_{}", each.name), log, text, &format!("document 01, refusal numbers; 60 rows, then {}", shown.join(", ")));
+        add(
+            &format!("damaged_{}", each.name),
+            log,
+            text,
+            &format!("document 01, refusal numbers; 60 rows, then {}", shown.join(", ")),
+        );
     }
     list
 }
@@ -154,10 +190,10 @@ pub fn readme(vectors: &[Vector]) -> String {
     let mut text = String::from(
         "# Vectors\n\n\
          `NAME.log` is a log as the printing program reads it, `NAME.out` all that it prints. Both are written by\n\
-         `cargo run --bin make_vectors` in `tests/` from numbers that stand in `src/worked.rs` and `src/vectors.rs`; no\n\
-         replay makes them. The tests fail where a file here differs from what is written anew.\n\n\
-         In the damages, `Byte` adds to a byte of a block, `Word` puts a word, `Length` cuts or adds zero bytes, `Swap`\n\
-         exchanges two blocks, and `Repair` makes all checks right again.\n\n\
+         `cargo run --bin make_vectors` in `tests/` from numbers in `src/worked.rs` and `src/vectors.rs`; no replay\n\
+         makes them. The tests fail where a file here differs from what is written anew.\n\n\
+         In the damages, `Byte` adds to a byte of a block, `Word` puts a word, `Length` cuts or adds zero bytes,\n\
+         `Swap` exchanges two blocks, and `Repair` makes all checks right again.\n\n\
          | vector | where its numbers come from |\n|---|---|\n",
     );
     for vector in vectors {

@@ -36,13 +36,29 @@ pub fn both(count: u32) -> Vec<(&'static str, Setup)> {
 struct List(Vec<Worked>);
 
 impl List {
-    fn done(&mut self, name: &str, setup: Setup, table: &[(u32, u32, u32)], done: &[u32], idle: u32, source: &'static str) {
+    fn done(
+        &mut self,
+        name: &str,
+        setup: Setup,
+        table: &[(u32, u32, u32)],
+        done: &[u32],
+        idle: u32,
+        source: &'static str,
+    ) {
         let end = done.iter().copied().max().unwrap_or(0);
         let outcome = Ok((done.to_vec(), end));
         self.0.push(Worked { name: name.into(), setup, rows: rows(table), outcome, idle, source });
     }
 
-    fn refused(&mut self, name: &str, setup: Setup, table: &[(u32, u32, u32)], number: u32, row: u32, source: &'static str) {
+    fn refused(
+        &mut self,
+        name: &str,
+        setup: Setup,
+        table: &[(u32, u32, u32)],
+        number: u32,
+        row: u32,
+        source: &'static str,
+    ) {
         let outcome = Err(Refusal { number, place: row });
         self.0.push(Worked { name: name.into(), setup, rows: rows(table), outcome, idle: 0, source });
     }

@@ -1,4 +1,4 @@
-//! A replay with one fault in an answer or reading: the comparison finds each, and prints the smallest case with its seed.
+//! A replay with one fault in an answer or reading: the comparison finds each, and prints a small case with its seed.
 
 use anduri_tests::compare;
 use anduri_tests::gen::{call_case, log_case, table_case, Random, Size};

@@ -1,5 +1,5 @@
-//! The shortcuts that document 01 says go wrong, and some more: each gives the wrong numbers that the document names, and the
-//! comparison finds each on drawn tables and shrinks what it found.
+//! The shortcuts that document 01 says go wrong, and some more: they give the wrong numbers that the document names,
+//! and drawn tables find each and shrink to three rows or fewer.
 
 use anduri_tests::gen::{table_case, Random, Size, TableCase};
 use anduri_tests::jumps::Jumps;
@@ -148,7 +148,8 @@ fn documents_wrong_numbers() {
 #[test]
 fn drawn_tables_find_each() {
     for mistake in ALL {
-        let differs = |case: &TableCase| right(case).is_some_and(|right| wrong(mistake, &case.setup, &rows_of(case)) != right);
+        let differs =
+            |case: &TableCase| right(case).is_some_and(|right| wrong(mistake, &case.setup, &rows_of(case)) != right);
         let mut tried = 0;
         let found = (1..=2_000).find_map(|seed| {
             tried += 1;

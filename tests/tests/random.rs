@@ -1,7 +1,7 @@
-//! Drawn calls, tables and logs: each replay beside the oracle, and the library beside the jumps where amounts are large.
+//! Drawn calls, tables and logs: each replay beside the oracle, and the library beside the jumps at large amounts.
 //!
-//! ANDURI_SEED chooses the first seed and ANDURI_TIMES multiplies the number of cases. A failing case is printed as small as
-//! it goes, with its seed.
+//! ANDURI_SEED chooses the first seed and ANDURI_TIMES multiplies the number of cases. A failing case is printed as
+//! small as it goes, with its seed.
 
 use anduri_tests::compare;
 use anduri_tests::gen::{call_case, edge_setup, log_case, table_case, CallCase, Random, Size, TableCase};

@@ -145,7 +145,11 @@ fn runs_and_readings<R: Replay>(replay: &R) {
         replay.request(&mut run, row(0, 1, 3)).unwrap();
         replay.advance(&mut run, time).unwrap();
         replay.drain(&mut run).unwrap();
-        assert_eq!((replay.completed(&run, 0), replay.completed(&run, 1)), (Ok(Some(7)), Ok(Some(6))), "advance {time}");
+        assert_eq!(
+            (replay.completed(&run, 0), replay.completed(&run, 1)),
+            (Ok(Some(7)), Ok(Some(6))),
+            "advance {time}"
+        );
     }
 
     // Point 13: the next reading ignores the last time.
@@ -224,7 +228,7 @@ fn logs<R: Replay>(replay: &R) {
         let expected = if number < 30 && number > 4 { Ok(()) } else { Err(each.refusal) };
         assert_eq!(replay.judge(&log).map(|_| ()), expected, "{}", each.name);
     }
-    // Every byte of a log, changed alone: 31 at its block, or nothing else than 31 to 33, 1 to 4 and the rows once repaired.
+    // Every byte of a log, changed alone: 31 at its block; with the check repaired, what the oracle says.
     for at in 0..whole.len() {
         let block = at / 512;
         let mut log = whole.clone();
@@ -233,7 +237,9 @@ fn logs<R: Replay>(replay: &R) {
         damage(&mut log, &Damage::Repair);
         compare::log(replay, &Oracle, &log).unwrap();
     }
-    for (count, answer) in [(0, Ok(0)), (1, Ok(1)), (41, Ok(41)), (42, Ok(42)), (1_024, Ok(1_024)), (1_025, Err(Refusal::at(33, 25)))] {
+    for (count, answer) in
+        [(0, Ok(0)), (1, Ok(1)), (41, Ok(41)), (42, Ok(42)), (1_024, Ok(1_024)), (1_025, Err(Refusal::at(33, 25)))]
+    {
         assert_eq!(replay.judge(&log_of(&setup, &single_ticks(count))), answer, "{count} records");
     }
     assert_eq!(replay.judge(&log_of(&setup, &single_ticks(1_026))), Err(Refusal::alone(30)));
@@ -250,8 +256,6 @@ fn logs<R: Replay>(replay: &R) {
 macro_rules! each_replay {
     ($name:ident, $replay:expr) => {
         mod $name {
-            use super::*;
-
             #[test]
             fn worked_runs() {
                 super::worked_runs(&$replay);
@@ -276,8 +280,8 @@ macro_rules! each_replay {
     };
 }
 
-each_replay!(oracle_itself, Oracle);
-each_replay!(jumps, Jumps);
+each_replay!(oracle_itself, anduri_tests::oracle::Oracle);
+each_replay!(jumps, anduri_tests::jumps::Jumps);
 #[cfg(anduri_lib)]
 each_replay!(library, anduri_tests::face::Library);
 
@@ -313,7 +317,8 @@ fn refused_calls_change_no_run() {
     Oracle.request(&mut run, row(0, 0, 9)).unwrap();
     Oracle.advance(&mut run, 2).unwrap();
     let before = run.clone();
-    let calls = [row(LAST_TIME + 1, 0, 1), row(1, 0, 1), row(3, 2, 1), row(3, 1, 0), row(3, 1, 1_000_001), row(4, 0, 1)];
+    let calls =
+        [row(LAST_TIME + 1, 0, 1), row(1, 0, 1), row(3, 2, 1), row(3, 1, 0), row(3, 1, 1_000_001), row(4, 0, 1)];
     for (row, number) in calls.into_iter().zip([10, 11, 12, 13, 13, 14]) {
         assert_eq!(Oracle.call(&mut run, Call::Request(row)), Err(number));
         assert_eq!(run, before);
