@@ -6,7 +6,7 @@ usage: make_log.py TEXT LOG
 TEXT holds a setup line, then a line for each row; # begins a comment:
   setup POLICY COUNT SLICE [PRIORITY ..]   policy 1 priority, 2 round robin; priorities left out are 0
   TIME TASK AMOUNT
-Numbers are only made to fit their bytes: the replay judges the setup and the rows."""
+Numbers need only fit their bytes: the replay judges the setup and the rows."""
 import struct
 import sys
 

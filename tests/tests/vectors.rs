@@ -6,8 +6,10 @@ use anduri_tests::vectors::{readme, vectors};
 use anduri_tests::Replay;
 use std::collections::BTreeSet;
 use std::fs;
+use std::io::Write;
 use std::path::{Path, PathBuf};
-use std::process::Command;
+use std::process::{Command, Stdio};
+use std::time::Duration;
 
 fn folder() -> PathBuf {
     Path::new(env!("CARGO_MANIFEST_DIR")).join("vectors")
@@ -53,7 +55,23 @@ fn library_prints_them() {
     prints(&anduri_tests::face::Library);
 }
 
-/// The printing program named by ANDURI_PROGRAM, on files and on what is no whole log.
+/// What the program prints for input that comes through a pipe, in these pieces.
+fn piped(program: &Path, pieces: &[&[u8]]) -> String {
+    let mut child =
+        Command::new(program).stdin(Stdio::piped()).stdout(Stdio::piped()).spawn().expect("the program starts");
+    let mut input = child.stdin.take().unwrap();
+    for piece in pieces {
+        // The program may stop reading once the input is too long.
+        if input.write_all(piece).and_then(|()| input.flush()).is_err() {
+            break;
+        }
+        std::thread::sleep(Duration::from_millis(20));
+    }
+    drop(input);
+    String::from_utf8(child.wait_with_output().unwrap().stdout).unwrap()
+}
+
+/// The printing program named by ANDURI_PROGRAM, on files, through a pipe in pieces, and on input that is too long.
 #[test]
 fn program_prints_them() {
     let Some(program) = std::env::var_os("ANDURI_PROGRAM").filter(|path| !path.is_empty()) else {
@@ -65,6 +83,12 @@ fn program_prints_them() {
         let log = fs::File::open(folder().join(format!("{}.log", vector.name))).unwrap();
         let output = Command::new(&program).stdin(log).output().expect("the program starts");
         assert_eq!(String::from_utf8_lossy(&output.stdout), vector.text, "{}", vector.name);
+    }
+    for vector in vectors().iter().filter(|vector| ["case_a", "records_1024"].contains(&vector.name.as_str())) {
+        let (first, rest) = vector.log.split_at(700);
+        assert_eq!(piped(&program, &[first, rest]), vector.text, "{} in two pieces", vector.name);
+        let long = vec![0; 1_000_000];
+        assert_eq!(piped(&program, &[&vector.log, &long]), "refused 30 at 0\n", "{} and more", vector.name);
     }
 }
 
