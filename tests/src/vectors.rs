@@ -135,13 +135,26 @@ fn is_kept(name: &str) -> bool {
     !["rising", "falling", "slice_2", "slice_3", "slice_65535"].iter().any(|end| name.ends_with(end))
 }
 
+fn run_in_words(setup: &Setup, rows: &[Row]) -> String {
+    let counted = &setup.priorities[..setup.count as usize];
+    let mut text = match setup.policy {
+        1 => format!("priorities {counted:?}"),
+        _ => format!("round robin, slice {}, task count {}", setup.slice, setup.count),
+    };
+    for row in rows {
+        write!(text, " ({},{},{})", row.time, row.task, row.amount).unwrap();
+    }
+    text
+}
+
 pub fn vectors() -> Vec<Vector> {
     let mut list = Vec::new();
     let mut add = |name: &str, log: Vec<u8>, text: String, source: &str| {
         list.push(Vector { name: name.into(), log, text, source: source.into() });
     };
     for run in worked().iter().filter(|run| is_kept(&run.name)) {
-        add(&run.name, log_of(&run.setup, &run.rows), text_of(&run.rows, &run.outcome), run.source);
+        let source = format!("{}: {}", run.source, run_in_words(&run.setup, &run.rows));
+        add(&run.name, log_of(&run.setup, &run.rows), text_of(&run.rows, &run.outcome), &source);
     }
     let one = Setup::round_robin(1, 1);
     let limits = "document 01, record limits; rows of one tick, row i done at i, by hand";

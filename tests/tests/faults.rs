@@ -7,22 +7,32 @@ use anduri_tests::oracle::Oracle;
 use anduri_tests::shrink::failure;
 use anduri_tests::{Columns, Refusal, Replay, Row, Setup, BLOCK};
 
-#[derive(Clone, Copy, Debug, PartialEq, Eq)]
-enum Fault {
-    RefusedRequestKeepsMove,
-    AdvanceToClockRefused,
-    LateAdvanceIsBefore,
-    DrainMovesOnWhenEmpty,
-    ErasesCompletion,
-    IdleStopsAtTwenty,
-    ReadsEveryTask,
-    NextIsFirstOpen,
-    RefusedTableWrites,
-    WritesPastRows,
-    RowFromZero,
-    LogWithoutChecks,
-    RecordsOfLastBlock,
-    NoLastNewline,
+macro_rules! faults {
+    ($($name:ident)*) => {
+        #[derive(Clone, Copy, Debug, PartialEq, Eq)]
+        enum Fault {
+            $($name),*
+        }
+
+        const ALL: &[Fault] = &[$(Fault::$name),*];
+    };
+}
+
+faults! {
+    RefusedRequestKeepsMove
+    AdvanceToClockRefused
+    LateAdvanceIsBefore
+    DrainMovesOnWhenEmpty
+    ErasesCompletion
+    IdleStopsAtTwenty
+    ReadsEveryTask
+    NextIsFirstOpen
+    RefusedTableWrites
+    WritesPastRows
+    RowFromZero
+    LogWithoutChecks
+    RecordsOfLastBlock
+    NoLastNewline
 }
 
 struct Faulty(Fault);
@@ -153,28 +163,11 @@ fn first_failure(fault: Fault) -> Option<String> {
 
 #[test]
 fn each_is_found_and_shrunk() {
-    use Fault::*;
-    let all = [
-        RefusedRequestKeepsMove,
-        AdvanceToClockRefused,
-        LateAdvanceIsBefore,
-        DrainMovesOnWhenEmpty,
-        ErasesCompletion,
-        IdleStopsAtTwenty,
-        ReadsEveryTask,
-        NextIsFirstOpen,
-        RefusedTableWrites,
-        WritesPastRows,
-        RowFromZero,
-        LogWithoutChecks,
-        RecordsOfLastBlock,
-        NoLastNewline,
-    ];
-    for fault in all {
+    for &fault in ALL {
         let text = first_failure(fault).unwrap_or_else(|| panic!("{fault:?} is not found"));
         assert!(text.contains("# seed ") && text.contains("setup "), "{fault:?}: {text}");
         let lines = text.lines().filter(|line| !line.starts_with('#')).count();
-        let most = if fault == RecordsOfLastBlock { 50 } else { 7 };
+        let most = if fault == Fault::RecordsOfLastBlock { 50 } else { 7 };
         assert!(lines <= most, "{fault:?} is not small:\n{text}");
         println!("{fault:?}\n{text}\n");
     }
