@@ -1,26 +1,26 @@
 -- The law of jumping: while one task is served, n ticks are one service of n ticks. In order: idle ticks; a service in two
 -- parts; the turn; the jump; the jump of a sound state. Said once, over the policy. Assumes nothing.
-use Prim.Native.Nat.{ℕ, zero, suc, _+_, _-_, _≤_, _<_, zero-le}
+use Prim.Native.Nat.{ℕ, zero, suc, _+_, _-_, _≤_, _<_}
 use native.Mathlib.Omega.{arith}
-use native.Mathlib.Numerals.{add-one, one-add}
+use native.Mathlib.Numerals.{one-add}
 use native.Mathlib.Nat.{add-assoc, add-zero, not-suc-le-zero}
 use mathlib.Core.Path.{_≡_, refl, sym, ap, _∙_, subst}
-use mathlib.Core.Bool.{Bool, true, false, cond}
-use mathlib.Core.List.{List, [], _∷_, _++_}
-use lib.ListN.{length, length-append}
+use mathlib.Core.Bool.{true, false}
+use mathlib.Core.List.{List, [], _∷_}
+use lib.ListN.{length}
 use lib.Seq.{set-set}
 use lib.Dec.{eqb}
 use borrow.Author.Tests.{eqb-true, eqb-false, eq-eqb, ne-eqb}
 use Rattle.lists.specs.Lists.{at, times}
-use Rattle.lists.proofs.Testing.{tested, cond-true, cond-false}
-use Rattle.lists.proofs.Counting.{times-append, times-cons, times-nil}
+use Rattle.lists.proofs.Testing.{tested, cond-false}
 use Rattle.lists.proofs.Totals.{at-inside, at-set-same}
 use Rattle.rule.specs.Setups.{isPriority}
 use Rattle.rule.specs.State.{State}
-use Rattle.rule.specs.Tick.{chosen, overdue, headBack, turn, usedMore, give, rest, serve, tickOn, tick, ticks}
+use Rattle.rule.specs.Tick.{chosen, overdue, turn, usedMore, give, rest, serve, tickOn, tick, ticks}
 use Rattle.rule.specs.declared.Setup.{Setup}
 use Rattle.laws.specs.Sound.{Sound}
 use Rattle.laws.proofs.Chosen.{chosen-member}
+use Rattle.laws.proofs.Served.{times-turn, length-turn, used-turn}
 
 -- n more ticks fit into the slice
 abbrev pub Fits : State → ℕ → Type 0
@@ -101,28 +101,6 @@ fits-none s w =
     (λ e. simp e)
     (λ e. simp e (ne-eqb (s .used) (s .setup .slice) (omega (arith, w e))))
 
--- the turn keeps a property that the head's move keeps
-turn-queue {ℓ} : (P : List ℕ → Type ℓ) (s : State) → P (s .queue) → P (headBack (s .queue)) → P (turn s .queue)
-unfolding turn
-turn-queue P s p q = tested (overdue s) (λ e. rw e q) (λ e. rw e p)
-
-headBack-length : (q : List ℕ) → length (headBack q) ≡ length q
-unfolding headBack
-headBack-length [] = refl
-headBack-length (h ∷ t) = length-append t (h ∷ []) ∙ add-one (length t)
-
-headBack-times : (k : ℕ) (q : List ℕ) → times k (headBack q) ≡ times k q
-unfolding headBack
-headBack-times k [] = refl
-headBack-times k (h ∷ t) =
-    omega (arith, times-append k t (h ∷ []), times-cons k h t, times-cons k h [], times-nil k)
-
-turn-length : (s : State) → length (turn s .queue) ≡ length (s .queue)
-turn-length s = turn-queue (λ (q : List ℕ). length q ≡ length (s .queue)) s refl (headBack-length (s .queue))
-
-turn-times : (k : ℕ) (s : State) → times k (turn s .queue) ≡ times k (s .queue)
-turn-times k s = turn-queue (λ (q : List ℕ). times k q ≡ times k (s .queue)) s refl (headBack-times k (s .queue))
-
 -- ---- the jump
 
 tick-served : (s : State) → 0 < length (s .queue) → tick s ≡ serve (turn s)
@@ -163,7 +141,7 @@ jump : (s : State) (n : ℕ) → 0 < length (s .queue) → next s < length (s .o
 unfolding ticks turn serve
 jump s zero some ho hg p h w = absurd (not-suc-le-zero p)
 jump s (suc n) some ho hg p h w =
-    let l : length (turn s .queue) ≡ length (s .queue) = turn-length s in
+    let l : length (turn s .queue) ≡ length (s .queue) = length-turn s in
     ap (ticks n) (tick-served s some)
     ∙ ticks-give (turn s) (next s) ho hg (rw l some) refl n 1 (omega arith) (rw (one-add n) h) (rw (one-add n) w)
     ∙ ap (give (turn s) (next s)) (one-add n)
@@ -174,15 +152,7 @@ module _ (s : State) (S : Sound s) where
   -- after the turn at least one tick of the slice is left
   pub turn-fits : Fits (turn s) 1
   unfolding turn
-  turn-fits e =
-      tested (eqb (s .used) (s .setup .slice))
-      (λ f. let u : turn s .used ≡ 0 = turn-used e ∙ cond-true 0 (s .used) f in omega (arith, S .sliced e .some))
-      (λ f.
-      let u : turn s .used ≡ s .used = turn-used e ∙ cond-false 0 (s .used) f in
-      omega (arith, S .sliced e .inside, eqb-false (s .used) (s .setup .slice) f))
-    where
-      turn-used : isPriority (s .setup) ≡ false → turn s .used ≡ cond (eqb (s .used) (s .setup .slice)) 0 (s .used)
-      turn-used e = unfold turn overdue in ap (λ (b : Bool). cond b 0 (s .used)) (cond-false false (eqb (s .used) (s .setup .slice)) e)
+  turn-fits e = omega (arith, used-turn s e (S .sliced e))
 
   -- a task that stands in the queue is owed ticks
   pub queued-owed : (k : ℕ) → 0 < times k (s .queue) → 0 < at (s .owed) k
@@ -191,8 +161,8 @@ module _ (s : State) (S : Sound s) where
   pub next-owed : 0 < length (s .queue) → 0 < at (s .owed) (next s)
   unfolding turn
   next-owed h =
-      let m : 0 < times (next s) (turn s .queue) = chosen-member (s .setup) (turn s .queue) (rw (turn-length s) h) in
-      queued-owed (next s) (omega (arith, turn-times (next s) s))
+      let m : 0 < times (next s) (turn s .queue) = chosen-member (s .setup) (turn s .queue) (rw (length-turn s) h) in
+      queued-owed (next s) (omega (arith, times-turn s (next s)))
 
 -- t is s after the turn, and gives its chosen task i some ticks in a row: that is s as many ticks later
 pub ticks-jump : (s t : State) → Sound s → 0 < length (s .queue) → t ≡ turn s → (i n : ℕ)
