@@ -15,3 +15,4 @@ pub mod Soonest
 pub mod Tables
 pub mod Sequences
 pub mod Unique
+pub mod Jump

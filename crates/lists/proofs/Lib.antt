@@ -1,5 +1,6 @@
 pub mod Copying
 pub mod Counting
+pub mod Places
 pub mod Testing
 pub mod Totals
 pub mod Zeros
