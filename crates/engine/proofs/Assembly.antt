@@ -1,0 +1,96 @@
+-- A run is taken apart, and put together with its queue from place 0 on. Assumes nothing.
+use Prim.Native.Nat.{ℕ, _≤_, _<_}
+use native.Mathlib.Omega.{arith}
+use mathlib.Core.Path.{_≡_, sym, ap, _∙_, subst}
+use mathlib.Core.List.{List, _++_}
+use lib.ListN.{take, drop}
+use lib.Dec.{ltb}
+use Rattle.lists.specs.Lists.{at, times}
+use Rattle.lists.proofs.Testing.{tested, cond-same}
+use Rattle.rule.specs.Setups.{isPriority}
+use Rattle.rule.specs.State.{State}
+use Rattle.rule.specs.View.{view, Tidy, Shows}
+use Rattle.rule.specs.declared.Setup.{Setup}
+use Rattle.rule.specs.declared.Run.{Run}
+use Rattle.laws.specs.Sound.{Sound}
+use Rattle.engine.specs.Parts.{queueAt, parts, Kept, straightTo}
+use Rattle.engine.specs.Promises.{Tasks, Heads, Apart}
+use Rattle.engine.specs.declared.Cursor.{Cursor}
+use Rattle.engine.proofs.Queues.{queueAt-priority, queueAt-zero, heads-inside, heads-serves, straight-take}
+use Rattle.engine.proofs.Joining.{straight-whole, straight-clear}
+use Rattle.engine.proofs.Legs.{places-tasks}
+
+with-queue : Setup → Cursor → List ℕ → List ℕ → List ℕ → List ℕ → State
+with-queue s c x o g d =
+    record {
+      setup = s;
+      clock = c .clock;
+      idle = c .idle;
+      used = c .used;
+      queue = x;
+      owed = o;
+      given = g;
+      done = d;
+    }
+
+module _ (r : Run) (T : Tidy r) where
+  pub run-tasks : Sound (view r) → Tasks (r .queue)
+  run-tasks S =
+      places-tasks (r .queued) (r .queue) (r .owed) (omega (arith, T .fits, T .whole))
+      (λ k l. omega (arith, S .queued k))
+      (S .owed32)
+      (T .clear)
+
+  pub apart : (head : ℕ) → Heads (r .setup) 0 (r .queued) (r .queue) head
+      → Apart r (record { clock = r .clock; idle = r .idle; used = r .used; queued = r .queued; head = head })
+  unfolding with-queue
+  apart head H =
+      record {
+        kept =
+            record {
+              fits = T .fits;
+              whole = T .whole;
+              clear = T .clear;
+              inside = heads-inside (r .setup) 0 (r .queued) (r .queue) head H;
+              serves = λ p.
+                  heads-serves (r .setup) 0 (r .queued) (r .queue) head H p (omega (arith, T .fits, T .whole));
+            };
+        shown = ap (λ (x : List ℕ). with-queue (r .setup) cursor x (r .owed) (r .given) (r .done)) queue;
+      }
+    where
+      cursor : Cursor
+      cursor = record { clock = r .clock; idle = r .idle; used = r .used; queued = r .queued; head = head }
+
+      queue : queueAt (r .setup) head (r .queued) (r .queue) ≡ take (r .queued) (r .queue)
+      queue =
+          tested (isPriority (r .setup))
+          (λ e. queueAt-priority (r .setup) head (r .queued) (r .queue) e)
+          (λ e.
+          ap (λ (x : ℕ). queueAt (r .setup) x (r .queued) (r .queue)) (H .robin e ∙ cond-same (ltb 0 (r .queued)) 0)
+          ∙ queueAt-zero (r .setup) (r .queued) (r .queue))
+
+pub together : (s : Setup) (c : Cursor) (q q′ o g d : List ℕ) (r : Cursor) → Kept s c q → r ≡ straightTo s c
+    → q′ ≡ queueAt s (c .head) (c .queued) q ++ drop (c .queued) q
+    → Shows
+    (record {
+      setup = s;
+      clock = r .clock;
+      idle = r .idle;
+      used = r .used;
+      queued = r .queued;
+      queue = q′;
+      owed = o;
+      given = g;
+      done = d;
+    })
+    (parts s c q o g d)
+unfolding with-queue straightTo
+together s c q q′ o g d r K er e =
+    rw er
+    record {
+      tidy =
+          record { fits = K .fits; whole = straight-whole s c q K q′ e; clear = straight-clear s c q K q′ e };
+      shown =
+          ap (λ (x : List ℕ). with-queue s c x o g d)
+          (straight-take s (c .head) (c .queued) q q′ (omega (arith, K .fits, K .whole)) e);
+    }

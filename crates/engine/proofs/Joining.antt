@@ -1,0 +1,124 @@
+-- A task that joins the queue. In order: the queue from place 0 on; a task that joins it. Assumes nothing.
+use Prim.Native.Nat.{ℕ, suc, _+_, _-_, _≤_, _<_, zero-le}
+use native.Mathlib.Omega.{arith}
+use mathlib.Core.Path.{_≡_, sym, ap, _∙_, subst}
+use mathlib.Core.Bool.{Bool, true, false, cond}
+use mathlib.Core.List.{List, [], _∷_, _++_}
+use lib.ListN.{length, set, drop, replicate, length-set}
+use lib.Seq.{drop-set-lt, drop-drop}
+use lib.Dec.{ltb}
+use Rattle.lists.specs.Lists.{at}
+use Rattle.lists.proofs.Testing.{tested, cond-same}
+use Rattle.lists.proofs.Places.{below-append, below-drop, below-set}
+use Rattle.rule.specs.Setups.{isPriority}
+use Rattle.rule.specs.Tick.{chosen}
+use Rattle.rule.specs.Calls.{opened}
+use Rattle.rule.specs.declared.Setup.{Setup}
+use Rattle.engine.specs.Parts.{queueAt, parts, Kept, straightTo}
+use Rattle.engine.specs.Promises.{Tasks, Heads, Opens}
+use Rattle.engine.specs.declared.Cursor.{Cursor}
+use Rattle.engine.proofs.Queues.{queueAt-below, chosen-robin, heads-inside, heads-serves, serves-heads, heads-set}
+use Rattle.engine.proofs.Queues.{straight-drop, straight-length, straight-priority, queueAt-joined}
+
+-- ---- the queue from place 0 on
+
+pub straight-queued : (s : Setup) (c r : Cursor) → r ≡ straightTo s c → r .queued ≡ c .queued
+unfolding straightTo
+straight-queued s c r e = ap (λ (x : Cursor). x .queued) e
+
+module _ (s : Setup) (c : Cursor) (q : List ℕ) (K : Kept s c q) (q′ : List ℕ)
+    (e : q′ ≡ queueAt s (c .head) (c .queued) q ++ drop (c .queued) q) where
+  room : c .queued ≤ length q
+  room = omega (arith, K .fits, K .whole)
+
+  pub straight-whole : length q′ ≡ 32
+  straight-whole = straight-length s (c .head) (c .queued) q q′ room e ∙ K .whole
+
+  pub straight-clear : drop (c .queued) q′ ≡ replicate (32 - c .queued) 0
+  straight-clear = straight-drop s (c .head) (c .queued) q q′ room e ∙ K .clear
+
+  pub straight-tasks : (task : ℕ) → c .queued < 32 → task < 32 → Tasks q → Tasks (set q′ (c .queued) task)
+  straight-tasks task l b t =
+      below-set 32 (c .queued) task q′ (omega (arith, straight-whole)) b
+      (rw e
+      (below-append 32 (queueAt s (c .head) (c .queued) q) (drop (c .queued) q)
+      (queueAt-below s 32 (c .head) (c .queued) q t)
+      (below-drop 32 (c .queued) q t)))
+
+  straight-serves : 0 < c .queued
+      → at q′ (straightTo s c .head) ≡ chosen s (queueAt s (straightTo s c .head) (c .queued) q′)
+  unfolding straightTo
+  straight-serves p =
+      tested (isPriority s)
+      (λ f. rw (f, straight-priority s (c .head) (c .queued) q q′ room e f) (K .serves p))
+      (λ f. rw f (sym (chosen-robin s 0 (c .queued) q′ f p (omega (arith, straight-whole, K .fits)))))
+
+  pub straight-heads : (r : Cursor) (task : ℕ) → r ≡ straightTo s c
+      → Heads s (r .head) (r .queued) (set q′ (r .queued) task) (r .head)
+  unfolding straightTo
+  straight-heads r task er =
+      rw er
+      (heads-set s (straightTo s c .head) (c .queued) q′ task
+      (serves-heads s (straightTo s c .head) (c .queued) q′ (inside (isPriority s)) (omega (arith, straight-whole, K .fits))
+      straight-serves))
+    where
+      inside : (b : Bool) → cond b (c .head) 0 ≤ c .queued - 1
+      inside true = K .inside
+      inside false = zero-le
+
+  -- ---- a task joins it
+
+  pub joined-opens : (r : Cursor) (task amount : ℕ) (o : List ℕ) (head : ℕ) → r ≡ straightTo s c → c .queued < 32
+      → Heads s (r .head) (r .queued + 1) (set q′ (r .queued) task) head
+      → Opens s c task amount q o
+      (record { clock = c .clock; idle = c .idle; used = c .used; queued = r .queued + 1; head = head })
+      (set q′ (r .queued) task) (set o task amount)
+  unfolding straightTo
+  joined-opens r task amount o head er b = subst Joins (sym er) joins
+    where
+      Joins : Cursor → Type 0
+      Joins r =
+          Heads s (r .head) (r .queued + 1) (set q′ (r .queued) task) head
+          → Opens s c task amount q o
+          (record { clock = c .clock; idle = c .idle; used = c .used; queued = r .queued + 1; head = head })
+          (set q′ (r .queued) task) (set o task amount)
+
+      whole : length (set q′ (c .queued) task) ≡ 32
+      whole = length-set q′ (c .queued) task ∙ straight-whole
+
+      clear : drop (c .queued + 1) (set q′ (c .queued) task) ≡ replicate (32 - (c .queued + 1)) 0
+      clear =
+          let m : 32 - c .queued ≡ suc (32 - (c .queued + 1)) = omega arith in
+          drop-set-lt (c .queued + 1) q′ (c .queued) task (omega arith)
+          ∙ sym (drop-drop 1 (c .queued) q′)
+          ∙ ap (drop 1) (straight-clear ∙ ap (λ (k : ℕ). replicate k 0) m)
+
+      joins : Joins (straightTo s c)
+      joins H =
+          record {
+            kept =
+                record {
+                  fits = omega arith;
+                  whole = whole;
+                  clear = clear;
+                  inside = heads-inside s (straightTo s c .head) (c .queued + 1) (set q′ (c .queued) task) head H;
+                  serves = λ p.
+                      heads-serves s (straightTo s c .head) (c .queued + 1) (set q′ (c .queued) task) head H p (omega (arith, whole));
+                };
+            shown = λ g d.
+                unfold opened in
+                ap
+                (λ (x : List ℕ).
+                record {
+                  setup = s;
+                  clock = c .clock;
+                  idle = c .idle;
+                  used = c .used;
+                  queue = x;
+                  owed = set o task amount;
+                  given = g;
+                  done = d;
+                })
+                (queueAt-joined s (c .head) (c .queued) q q′ room e task head (omega (arith, K .whole))
+                (λ f. H .robin f ∙ rw f (cond-same (ltb 0 (c .queued + 1)) 0)));
+          }

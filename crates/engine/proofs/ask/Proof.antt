@@ -1,0 +1,88 @@
+use native.Mathlib.Omega.{arith}
+use Prim.Native.Nat.{_<_}
+use mathlib.Core.Path.{_≡_, sym, _∙_}
+use Rattle.engine.specs.Parts.{parts}
+use Rattle.engine.specs.Promises.{earlyRefusal}
+use Rattle.engine.proofs.Legs.{kept-tasks}
+use Rattle.engine.proofs.Requests.{Passed, early-passed, asks-early, asks-open, queue-room, asks-taken}
+use borrow.Author.Needs.{needs}
+use Rattle.engine.proofs.ask.Statement.{statement}
+use Rattle.engine.proofs.ask.Tie as tie
+use Rattle.engine.proofs.ask.Reads as reads
+use Rattle.engine.proofs.ask.Lts as lts
+use Rattle.engine.proofs.early_refusal.Reads as early-refusal-reads
+use Rattle.engine.proofs.joined.Reads as joined-reads
+use Rattle.engine.proofs.walk.Reads as walk-reads
+
+-- the place past the refusals by 10 to 13, and what is known there
+abbrev past : tie.After-walk → tie.Else1
+past c = c .before .before .before .before .before
+
+early : (c : tie.Else1)
+    → let a = c .before .before .args in earlyRefusal (a .s .count) (a .c .clock) (a .time) (a .task) (a .amount) ≡ 0
+early c = sym (c .before .early-refusal .ensures) ∙ c .if1 .left
+
+passed : (c : tie.Else1) → let a = c .before .before .args in Passed (a .s .count) (a .c .clock) (a .time) (a .task) (a .amount)
+passed c = early-passed _ _ _ _ _ (early c)
+
+known : (c : tie.Else1) → c .before .before .args .task < 32
+known c = omega (arith, passed c .task, c .before .before .pre .1 .few)
+
+early-refusal-requires : tie.Need-early-refusal-requires
+early-refusal-requires c κs = search needs
+
+returns : tie.Need-returns
+returns c =
+    let s = c .before .before in
+    asks-early _ (s .args .c) _ _ _ _ _ _ (s .pre .0) (s .pre .1) (c .before .early-refusal .ensures) (c .if1 .taken)
+
+walk-requires : tie.Need-walk-requires
+walk-requires c κs =
+    let e = c .before .before .before .before in
+    let s = e .before .before in
+    (s .pre .0, (s .pre .1, (passed e .later, omega (arith, passed e .time))))
+
+mul-o : tie.Need-mul-o
+mul-o c = search needs
+
+element-copy-out-o : tie.Need-element-copy-out-o
+element-copy-out-o c = known (past c)
+
+returns-2 : tie.Need-returns-2
+returns-2 c =
+    let w = c .before .before in
+    asks-open _ _ _ _ _ (past w .before .before .pre .1) (early (past w)) _ _ _ _ _ (w .walk .ensures) (c .if2 .taken)
+
+cast-joined : tie.Need-cast-joined
+cast-joined c = omega (arith, known (past (c .before .before)))
+
+joined-requires : tie.Need-joined-requires
+joined-requires c κs =
+    let w = c .before .before .before .before in
+    let r = w .walk .ensures in (
+      r .kept,
+      (
+        queue-room _ _ _ _ _ (past w .before .before .pre .1) (early (past w)) _ _ _ _ _ r (omega (arith, c .before .before .if2 .left)),
+        (kept-tasks _ _ _ _ _ _ (r .kept) (r .sound), known (past w)),
+      ),
+    )
+
+returns-3 : tie.Need-returns-3
+returns-3 c =
+    let w = c .before .before .before .before .before in
+    asks-taken _ _ _ _ _ (past w .before .before .pre .1) (early (past w)) _ _ _ _ _ (w .walk .ensures) (omega (arith, c .before .before .before .if2 .left)) _ _ _
+    (c .joined .ensures)
+
+pub ask-spec : {M : Type 1} → statement M
+ask-spec =
+    tie.close
+    (tie.spec
+    early-refusal-requires
+    returns
+    walk-requires
+    mul-o
+    element-copy-out-o
+    returns-2
+    cast-joined
+    joined-requires
+    returns-3)

@@ -1,0 +1,19 @@
+use Rattle.engine.proofs.Assembly.{run-tasks, apart}
+use Rattle.engine.proofs.cursor_of.Statement.{statement}
+use Rattle.engine.proofs.cursor_of.Tie as tie
+use Rattle.engine.proofs.cursor_of.Reads as reads
+use Rattle.engine.proofs.cursor_of.Lts as lts
+use Rattle.engine.proofs.line.head_of.Reads as head-of-reads
+
+head-of-requires : tie.Need-head-of-requires
+head-of-requires c κs =
+    let s = c .before .before .before in
+    (s .pre .0 .whole, (run-tasks (s .args .run) (s .pre .0) (s .pre .1), s .pre .0 .fits))
+
+returns : tie.Need-returns
+returns c =
+    let s = c .before .before .before .before in
+    apart (s .args .run) (s .pre .0) _ (c .head-of .ensures)
+
+pub cursor-of-spec : {M : Type 1} → statement M
+cursor-of-spec = tie.close (tie.spec head-of-requires returns)

@@ -1,0 +1,41 @@
+use native.Mathlib.Omega.{arith}
+use Prim.Native.Nat.{ℕ, _+_}
+use mathlib.Core.Path.{_≡_, ap, _∙_}
+use Rattle.lists.specs.Lists.{total}
+use Rattle.rule.specs.Calls.{moved}
+use Rattle.engine.specs.Parts.{parts}
+use Rattle.engine.proofs.Walks.{drained-moved}
+use borrow.Author.Needs.{needs}
+use Rattle.engine.proofs.drain_on.Statement.{statement}
+use Rattle.engine.proofs.drain_on.Tie as tie
+use Rattle.engine.proofs.drain_on.Reads as reads
+use Rattle.engine.proofs.drain_on.Lts as lts
+use Rattle.engine.proofs.total_of.Reads as total-of-reads
+use Rattle.engine.proofs.walk.Reads as walk-reads
+
+total-of-requires : tie.Need-total-of-requires
+total-of-requires c κs = search needs
+
+add-walk : tie.Need-add-walk
+add-walk c = search needs
+
+walk-requires : tie.Need-walk-requires
+walk-requires c κs =
+    let s = c .before .before .before .before .before .before .before in
+    let t = c .before .before .before .before .before .total-of .ensures in
+    (s .pre .0, (s .pre .1 .0, (omega arith, omega (arith, t, s .pre .1 .1))))
+
+returns : tie.Need-returns
+returns c =
+    let a = c .before .before .before .before .before .before .before .before .args in
+    let t = c .before .before .before .before .before .before .total-of .ensures in
+    let st = parts (a .s) (a .c) (a .queue .now) (a .owed .now) (a .given .now) (a .done .now) in
+    let w = c .walk .ensures in
+    record {
+      kept = w .kept;
+      sound = w .sound;
+      shown = w .shown ∙ ap (λ (n : ℕ). moved st (a .c .clock + n)) t ∙ drained-moved st;
+    }
+
+pub drain-on-spec : {M : Type 1} → statement M
+drain-on-spec = tie.close (tie.spec total-of-requires add-walk walk-requires returns)

@@ -1,0 +1,70 @@
+use native.Mathlib.Omega.{arith}
+use Prim.Native.Nat.{_<_}
+use mathlib.Core.Path.{_≡_}
+use lib.ListN.{length-set}
+use Rattle.engine.proofs.Joining.{straight-queued, straight-whole, straight-tasks, straight-heads, joined-opens}
+use borrow.Author.Needs.{needs}
+use Rattle.engine.proofs.joined.Statement.{statement}
+use Rattle.engine.proofs.joined.Tie as tie
+use Rattle.engine.proofs.joined.Reads as reads
+use Rattle.engine.proofs.joined.Lts as lts
+use Rattle.engine.proofs.line.head_with.Reads as head-with-reads
+use Rattle.engine.proofs.straightened.Reads as straightened-reads
+
+-- the queue is as long as it was
+same : (c : tie.After-straightened) → c .straightened .result .queued ≡ c .before .before .args .c .queued
+same c = straight-queued (c .before .before .args .s) (c .before .before .args .c) _ (c .straightened .ensures .0)
+
+room : (c : tie.After-straightened) → c .straightened .result .queued < 32
+room c = omega (arith, same c, c .before .before .pre .1 .0)
+
+mul-owed : tie.Need-mul-owed
+mul-owed c = search needs
+
+element-write-owed : tie.Need-element-write-owed
+element-write-owed c = search needs
+
+straightened-requires : tie.Need-straightened-requires
+straightened-requires c κs = search needs
+
+element-write-queue : tie.Need-element-write-queue
+element-write-queue c = room c
+
+head-with-requires : tie.Need-head-with-requires
+head-with-requires c κs =
+    let p = c .before in
+    let s = p .before .before in
+    let a = s .args in
+    let e = p .straightened .ensures in
+    let K = s .pre .0 in (
+      rw length-set (straight-whole (a .s) (a .c) (a .queue .now) K _ (e .1)),
+      (
+        rw (same p)
+            (straight-tasks (a .s) (a .c) (a .queue .now) K _ (e .1) (a .task) (s .pre .1 .0) (s .pre .1 .1 .1) (s .pre .1 .1 .0)),
+        (room p, straight-heads (a .s) (a .c) (a .queue .now) K _ (e .1) (p .straightened .result) (a .task) (e .0)),
+      ),
+    )
+
+add-t11 : tie.Need-add-t11
+add-t11 c = omega (arith, room (c .before .before))
+
+returns : tie.Need-returns
+returns c =
+    let p = c .before .before in
+    let s = p .before .before in
+    let a = s .args in
+    let e = p .straightened .ensures in
+    joined-opens (a .s) (a .c) (a .queue .now) (s .pre .0) _ (e .1) (p .straightened .result) (a .task) (a .amount)
+    (a .owed .now) _ (e .0) (s .pre .1 .0) (c .head-with .ensures)
+
+pub joined-spec : {M : Type 1} → statement M
+joined-spec =
+    tie.close
+    (tie.spec
+    mul-owed
+    element-write-owed
+    straightened-requires
+    element-write-queue
+    head-with-requires
+    add-t11
+    returns)

@@ -1,0 +1,20 @@
+use Rattle.engine.specs.Parts.{restedTo}
+use mathlib.Core.Path.{refl}
+use borrow.Author.Needs.{needs}
+use Rattle.engine.proofs.rested.Statement.{statement}
+use Rattle.engine.proofs.rested.Tie as tie
+use Rattle.engine.proofs.rested.Reads as reads
+use Rattle.engine.proofs.rested.Lts as lts
+
+add-t3 : tie.Need-add-t3
+add-t3 c = search needs
+
+add-t4 : tie.Need-add-t4
+add-t4 c = search needs
+
+returns : tie.Need-returns
+unfolding restedTo
+returns c = refl
+
+pub rested-spec : {M : Type 1} → statement M
+rested-spec = tie.close (tie.spec add-t3 add-t4 returns)

@@ -1,0 +1,44 @@
+use native.Mathlib.Omega.{arith}
+use mathlib.Core.Path.{_≡_, refl, sym, ap, _∙_}
+use Prim.Native.Nat.{ℕ}
+use mathlib.Core.List.{List, _++_}
+use lib.ListN.{drop, take-append-drop}
+use borrow.Author.Tests.{eq-eqb, ne-eqb}
+use Rattle.engine.specs.Parts.{straightTo}
+use Rattle.engine.proofs.Queues.{queueAt-priority, queueAt-robin}
+use borrow.Author.Needs.{needs}
+use Rattle.engine.proofs.straightened.Statement.{statement}
+use Rattle.engine.proofs.straightened.Tie as tie
+use Rattle.engine.proofs.straightened.Reads as reads
+use Rattle.engine.proofs.straightened.Lts as lts
+use Rattle.engine.proofs.line.straight.Reads as straight-reads
+
+returns : tie.Need-returns
+unfolding straightTo
+returns c =
+    let s = c .before .before in
+    let k = s .args .c in
+    let q = s .args .queue .now in
+    let e = eq-eqb _ 1 (c .if1 .taken) in (
+      rw e,
+      sym (ap (λ (x : List ℕ). x ++ drop (k .queued) q) (queueAt-priority (s .args .s) (k .head) (k .queued) q e)
+          ∙ take-append-drop (k .queued) q),
+    )
+
+straight-requires : tie.Need-straight-requires
+straight-requires c κs = search needs
+
+returns-2 : tie.Need-returns-2
+unfolding straightTo
+returns-2 c =
+    let s = c .before .before .before .before in
+    let k = s .args .c in
+    let q = s .args .queue .now in
+    let e = ne-eqb _ 1 (c .before .before .if1 .left) in (
+      rw e,
+      c .straight .ensures
+          ∙ ap (λ (x : List ℕ). x ++ drop (k .queued) q) (sym (queueAt-robin (s .args .s) (k .head) (k .queued) q e)),
+    )
+
+pub straightened-spec : {M : Type 1} → statement M
+straightened-spec = tie.close (tie.spec returns straight-requires returns-2)

@@ -1,0 +1,55 @@
+use native.Mathlib.Omega.{arith}
+use Prim.Native.Nat.{_-_}
+use Rattle.engine.specs.Parts.{parts}
+use Rattle.engine.proofs.Walks.{Going, going-start, going-step, going-end}
+use Rattle.engine.proofs.walk.Statement.{statement}
+use Rattle.engine.proofs.walk.Tie as tie
+use Rattle.engine.proofs.walk.Reads as reads
+use Rattle.engine.proofs.walk.Lts as lts
+use Rattle.engine.proofs.step.Reads as step-reads
+
+abbrev Inv-loop : tie.InvT-loop
+Inv-loop s time queue₀ owed₀ given₀ done₀ c₀ queue owed given done c =
+    Going time s (parts s c₀ queue₀ owed₀ given₀ done₀) c queue (parts s c queue owed given done)
+
+abbrev μ-loop : tie.MeasureT-loop
+μ-loop s time queue₀ owed₀ given₀ done₀ c₀ queue owed given done c = time - c .clock
+
+loop-holds : tie.Need-loop-holds Inv-loop μ-loop
+loop-holds c =
+    let a = c .args in
+    going-start (a .time) (a .s) (parts (a .s) (a .from) (a .queue .now) (a .owed .now) (a .given .now) (a .done .now)) (a .from)
+    (a .queue .now) (c .pre .0) (c .pre .1 .0) (c .pre .1 .1 .0)
+
+sub-step : tie.Need-sub-step Inv-loop μ-loop
+sub-step c = omega (arith, c .before .if1 .taken)
+
+step-requires : tie.Need-step-requires Inv-loop μ-loop
+step-requires c κs =
+    let i = c .before .before .before .before .before .before .before .loop .inv in
+    let t = c .before .before .before .before .before .if1 .taken in
+    let s = c .before .before .before .before .before .before .before .before in
+    (i .kept, (i .sound, (omega (arith, t), omega (arith, t, s .pre .1 .1 .1))))
+
+loop-less : tie.Need-loop-less Inv-loop μ-loop
+loop-less c =
+    omega (
+      arith,
+      c .step .ensures .later,
+      c .step .ensures .soon,
+      c .before .before .before .before .before .before .if1 .taken,
+    )
+
+loop-again : tie.Need-loop-again Inv-loop μ-loop
+loop-again c =
+    let i = c .before .before .before .before .before .before .before .before .loop in
+    going-step _ _ _ (i .c) (i .queue) _ (i .inv) _ _ _ (c .before .before .before .before .before .before .if1 .taken)
+    (c .step .ensures)
+
+returns : tie.Need-returns Inv-loop μ-loop
+returns c = going-end _ _ _ _ _ _ (c .before .before .loop .inv) (c .if1 .left)
+
+pub walk-spec : {M : Type 1} → statement M
+walk-spec =
+    tie.close
+    (tie.spec Inv-loop μ-loop loop-holds sub-step step-requires loop-less loop-again returns)
