@@ -238,7 +238,7 @@ pub fn walk(
     c
 }
 
-fn total_of(owed: &[u32; 32]) -> u32
+pub fn total_of(owed: &[u32; 32]) -> u32
     requires { ⌜ length (now owed) ≡ 32 ⌝ }
     requires { ⌜ total (now owed) < 2 ^ 32 ⌝ }
     ensures { λ r. ⌜ r ≡ total (now (owed .entry)) ⌝ }

@@ -1,9 +1,13 @@
 -- What each case of an answer tells: "a definition gives this paper's number and values for each of its cases". Assumes
 -- nothing.
-use Prim.Native.Nat.{ℕ}
+use Prim.Native.Nat.{ℕ, _≤_}
+use mathlib.Core.Path.{_≡_}
+use mathlib.Core.Logic.{_⊎_}
 use Rattle.rule.specs.Readings.{Reading, value, never, refused}
 use Rattle.replay.specs.declared.start.SetupAnswer.{SetupAnswer}
 use Rattle.replay.specs.declared.start.SetupAnswer.the-variants as setup
+use Rattle.replay.specs.declared.calls.CallAnswer.{CallAnswer}
+use Rattle.replay.specs.declared.calls.CallAnswer.the-variants as call
 use Rattle.replay.specs.declared.readings.TaskTicks.{TaskTicks}
 use Rattle.replay.specs.declared.readings.TaskTicks.the-variants as ticks
 use Rattle.replay.specs.declared.readings.Completion.{Completion}
@@ -16,6 +20,19 @@ setupNumber setup.WrongPolicy = 1
 setupNumber setup.WrongCount = 2
 setupNumber setup.WrongSlice = 3
 setupNumber setup.WrongPriorities = 4
+
+-- a call: its number, 0 where it is accepted
+abbrev pub callNumber : CallAnswer → ℕ
+callNumber call.Accepted = 0
+callNumber call.TimePastLimit = 10
+callNumber call.TimeBeforeClock = 11
+callNumber call.NoSuchTask = 12
+callNumber call.WrongAmount = 13
+callNumber call.StillOpen = 14
+
+-- a number that a call may have
+abbrev pub Called : ℕ → Type 0
+Called n = (n ≡ 0) ⊎ ((10 ≤ n) × (n ≤ 14))
 
 -- ticks of a task
 abbrev pub ticksTold : TaskTicks → Reading

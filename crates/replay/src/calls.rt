@@ -117,10 +117,14 @@ pub fn advance(run: Run, time: u32) -> Moved
 }
 
 // Moves the clock to the first instant at which nothing is open. It is never refused.
-pub fn drain(run: Run) -> Run
+pub fn drain(run: Run) -> Moved
     requires { ⌜ MadeRun run ⌝ }
-    ensures { λ r. ⌜ Promised run drain 0 r ⌝ }
+    ensures { λ r. ⌜ Promised run drain (callNumber (r .answer)) (r .run) ⌝ }
 {
     let left = super::readings::total_owed(run);
-    moved_to(run, run.clock + left)
+    let after = moved_to(run, run.clock + left);
+    Moved {
+        answer: CallAnswer::Accepted,
+        run: after,
+    }
 }

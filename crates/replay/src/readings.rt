@@ -4,7 +4,7 @@ ghost use mathlib.Core.Path.{_≡_};
 ghost use Prim.Native.Nat.{_≤_};
 ghost use mathlib.Core.Bool.{cond};
 ghost use lib.Dec.{leb, eqb};
-ghost use Rattle.lists.specs.Lists.{at};
+ghost use Rattle.lists.specs.Lists.{at, total};
 ghost use Rattle.rule.specs.View.{view, MadeRun};
 ghost use Rattle.rule.specs.Readings.{value, never, refused, owedOf, givenOf, completedOf};
 ghost use Rattle.replay.specs.Answers.{ticksTold, completionTold};
@@ -33,6 +33,15 @@ pub fn idle(run: Run) -> u32
     ensures { λ r. ⌜ r ≡ view run .idle ⌝ }
 {
     run.idle
+}
+
+// Ticks owed to all tasks.
+pub fn total_owed(run: Run) -> u32
+    requires { ⌜ MadeRun run ⌝ }
+    ensures { λ r. ⌜ r ≡ total (view run .owed) ⌝ }
+{
+    let column = run.owed;
+    engine::total_of(&column)
 }
 
 // A task's entry of a column, refused where the task is not counted.
