@@ -1,7 +1,6 @@
 // Setting up a run.
 use rule::Run;
 ghost use mathlib.Core.Path.{_≡_};
-ghost use lib.ListN.{length};
 ghost use Prim.Native.Nat.{_≤_};
 ghost use Rattle.rule.specs.Setups.{asked, setupRefusal, plain};
 ghost use Rattle.rule.specs.State.{fresh};
@@ -41,20 +40,6 @@ fn answer_of(refusal: u32) -> SetupAnswer
     SetupAnswer::WrongPriorities
 }
 
-// A slice of 32 bytes as an array.
-fn array_of(bytes: &[u8]) -> [u8; 32]
-    requires { ⌜ length (now bytes) ≡ 32 ⌝ }
-    ensures { λ r. ⌜ r ≡ now (bytes .entry) ⌝ }
-{
-    let mut copy = [0u8; 32];
-    let mut i: usize = 0;
-    while i < 32 {
-        copy[i] = bytes[i];
-        i += 1;
-    }
-    copy
-}
-
 // A run with clock 0 on which nothing was asked.
 fn fresh_run(setup: rule::Setup) -> Run
     ensures { λ r. ⌜ Shows r (fresh setup) ⌝ }
@@ -77,13 +62,7 @@ fn accepted_run(policy: u32, count: u32, slice: u32, priorities: &[u8]) -> Run
     requires { ⌜ setupRefusal (asked policy count slice (now priorities)) ≡ 0 ⌝ }
     ensures { λ r. ⌜ Shows r (fresh (asked policy count slice (now (priorities .entry)))) ⌝ }
 {
-    let priority = array_of(priorities);
-    fresh_run(rule::Setup {
-        policy,
-        count,
-        slice,
-        priority,
-    })
+    fresh_run(setups::setup_of(policy, count, slice, priorities))
 }
 
 // The run of a refused setup: priority, one task.

@@ -1,4 +1,6 @@
-// Judging a setup, refusals 1 to 4: one place for runs, tables and logs.
+// Judging a setup, refusals 1 to 4, and putting it together: one place for runs, tables and logs.
+use rule::Setup;
+
 ghost use mathlib.Core.Path.{_≡_};
 ghost use mathlib.Core.Bool.{_||_};
 ghost use Prim.Native.Nat.{ℕ, _≤_};
@@ -75,4 +77,32 @@ pub fn setup_refusal(policy: u32, count: u32, slice: u32, priorities: &[u8]) -> 
         return 4;
     }
     0
+}
+
+// A slice of 32 bytes as an array.
+fn array_of(bytes: &[u8]) -> [u8; 32]
+    requires { ⌜ length (now bytes) ≡ 32 ⌝ }
+    ensures { λ r. ⌜ r ≡ now (bytes .entry) ⌝ }
+{
+    let mut copy = [0u8; 32];
+    let mut i: usize = 0;
+    while i < 32 {
+        copy[i] = bytes[i];
+        i += 1;
+    }
+    copy
+}
+
+// The setup of these numbers and 32 priorities.
+pub fn setup_of(policy: u32, count: u32, slice: u32, priorities: &[u8]) -> Setup
+    requires { ⌜ length (now priorities) ≡ 32 ⌝ }
+    ensures { λ r. ⌜ r ≡ asked policy count slice (now (priorities .entry)) ⌝ }
+{
+    let priority = array_of(priorities);
+    Setup {
+        policy,
+        count,
+        slice,
+        priority,
+    }
 }

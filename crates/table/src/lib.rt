@@ -114,3 +114,65 @@ fn put(tasks: &[u32], last: [u32; 32], done: [u32; 32], noted: &[u32], result: &
         i += 1;
     }
 }
+
+// The refusal of the columns by their lengths, or 0.
+fn column_refusal(times: usize, tasks: usize, amounts: usize, room: usize) -> u32
+    ensures { λ r. ⌜ r ≡ columnRefusal times tasks amounts room ⌝ }
+{
+    if tasks != times {
+        return 20;
+    }
+    if amounts != times {
+        return 20;
+    }
+    if 1_024 < times {
+        return 21;
+    }
+    if room < times {
+        return 22;
+    }
+    0
+}
+
+// The rows of an accepted setup and of columns that fit.
+fn run_table(setup: Setup, times: &[u32], tasks: &[u32], amounts: &[u32], result: &mut [u32]) -> TableAnswer
+    requires { ⌜ setupRefusal setup ≡ 0 ⌝ }
+    requires { ⌜ columnRefusal (length (now times)) (length (now tasks)) (length (now amounts)) (length (now result)) ≡ 0 ⌝ }
+    ensures { λ r. ⌜ Tabled (outcomeFrom (fresh setup) (rows (now (times .entry)) (now (tasks .entry)) (now (amounts .entry)))) (now (result .entry)) r (now (result .exit)) ⌝ }
+{
+    let mut noted = [0u32; 1025];
+    let ran = run_rows(setup, times, tasks, amounts, &mut noted);
+    if ran.refusal != 0 {
+        return TableAnswer::Refused(ran.refusal, ran.row);
+    }
+    let last = ran.last;
+    let done = ran.done;
+    put(tasks, last, done, &noted, result);
+    TableAnswer::Finished(ran.end)
+}
+
+// The table run: each row's completion in the result column, and the end; or a refusal, and the column as it was. Any
+// numbers and any lengths are taken.
+pub fn table(
+    policy: u32,
+    count: u32,
+    slice: u32,
+    priorities: &[u8],
+    times: &[u32],
+    tasks: &[u32],
+    amounts: &[u32],
+    result: &mut [u32],
+) -> TableAnswer
+    ensures { λ r. ⌜ Tabled (table.table (asked policy count slice (now (priorities .entry))) (now (times .entry)) (now (tasks .entry)) (now (amounts .entry)) (length (now (result .entry)))) (now (result .entry)) r (now (result .exit)) ⌝ }
+{
+    let wrong = setups::setup_refusal(policy, count, slice, priorities);
+    if wrong != 0 {
+        return TableAnswer::Refused(wrong, 0);
+    }
+    let misfit = column_refusal(times.len(), tasks.len(), amounts.len(), result.len());
+    if misfit != 0 {
+        return TableAnswer::Refused(misfit, 0);
+    }
+    let setup = setups::setup_of(policy, count, slice, priorities);
+    run_table(setup, times, tasks, amounts, result)
+}

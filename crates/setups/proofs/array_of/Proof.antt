@@ -1,10 +1,10 @@
--- `replay::start::array_of` meets its contract. The invariant: the first i entries are copied. Assumes nothing.
+-- `setups::array_of` meets its contract. The invariant: the first i entries are copied. Assumes nothing.
 use Prim.Native.Nat.{_-_}
 use mathlib.Core.Path.{refl}
 use native.Mathlib.Omega.{arith}
 use Rattle.lists.proofs.Copying.{Copied, copied-more, copied-all}
-use Rattle.replay.proofs.start.array_of.Statement.{statement}
-use Rattle.replay.proofs.start.array_of.Tie as tie
+use Rattle.setups.proofs.array_of.Statement.{statement}
+use Rattle.setups.proofs.array_of.Tie as tie
 
 abbrev Inv-loop : tie.InvT-loop
 Inv-loop bytes copy₀ i₀ copy i = Copied 32 bytes copy i
