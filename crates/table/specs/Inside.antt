@@ -1,20 +1,30 @@
 -- What the functions inside a table run promise. Rows count from 1 in `last` and `noted`. Assumes nothing.
-use Prim.Native.Nat.{ℕ, _+_, _<_}
+use Prim.Native.Nat.{ℕ, _+_, _≤_, _<_}
 use mathlib.Core.Path.{_≡_}
 use mathlib.Core.Bool.{cond}
 use mathlib.Core.List.{List}
 use lib.ListN.{length, drop}
 use lib.Dec.{eqb}
 use Rattle.lists.specs.Lists.{at}
+use Rattle.rule.specs.Setups.{setupRefusal}
 use Rattle.rule.specs.State.{State}
 use Rattle.rule.specs.Calls.{Call}
 use Rattle.rule.specs.Table.{Outcome, refused, finished, completions, outcomeFrom}
+use Rattle.rule.specs.declared.Setup.{Setup}
 use Rattle.table.specs.declared.Ran.{Ran}
 
 -- Row j's completion: the task's latest at the end if the row is its task's last, else what was noted when the task was
 -- requested again. `last` has each task's last row, and `noted` an entry for each row.
 abbrev pub settled : List ℕ → List ℕ → List ℕ → List ℕ → ℕ → ℕ
 settled ks last done noted j = cond (eqb (at last (at ks j)) (j + 1)) (at done (at ks j)) (at noted (j + 1))
+
+-- An accepted setup, columns of one length that are few enough, and an entry of notes for each row and one more.
+pub record Fitting (p : Setup) (ts ks ms noted : List ℕ) : Type 0 where
+  pub accepted : setupRefusal p ≡ 0
+  pub tasks-too : length ks ≡ length ts
+  pub amounts-too : length ms ≡ length ts
+  pub few : length ts ≤ 1_024
+  pub room : length ts < length noted
 
 -- each row's task is one of the 32
 abbrev pub Known : List ℕ → Type 0

@@ -10,7 +10,7 @@ ghost use Rattle.rule.specs.State.{fresh};
 ghost use Rattle.rule.specs.Table.{rows, outcomeFrom, columnRefusal};
 ghost use Rattle.rule.specs.Table as table;
 ghost use Rattle.table.specs.Tabled.{Tabled};
-ghost use Rattle.table.specs.Inside.{settled, Known, Runs, Writes};
+ghost use Rattle.table.specs.Inside.{Fitting, Known, Runs, Writes};
 
 // The end; or a refusal with its number, and the row from 1 where a row is at fault, else 0.
 pub enum TableAnswer {
@@ -31,11 +31,7 @@ struct Ran {
 // The rows are requested in order. When a task is requested again, the completion of its row before is noted at that row's
 // number; entry 0 of the notes is for a task's first request.
 fn run_rows(setup: Setup, times: &[u32], tasks: &[u32], amounts: &[u32], noted: &mut [u32]) -> Ran
-    requires { ⌜ setupRefusal setup ≡ 0 ⌝ }
-    requires { ⌜ length (now tasks) ≡ length (now times) ⌝ }
-    requires { ⌜ length (now amounts) ≡ length (now times) ⌝ }
-    requires { ⌜ length (now times) ≤ 1_024 ⌝ }
-    requires { ⌜ length (now times) < length (now noted) ⌝ }
+    requires { ⌜ Fitting setup (now times) (now tasks) (now amounts) (now noted) ⌝ }
     ensures { λ r. ⌜ Runs (fresh setup) (rows (now (times .entry)) (now (tasks .entry)) (now (amounts .entry))) (now (tasks .entry)) r (now (noted .entry)) (now (noted .exit)) ⌝ }
 {
     let mut queue = [0u8; 32];

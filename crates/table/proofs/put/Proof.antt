@@ -1,98 +1,80 @@
+-- `table::put` meets its contract. The invariant: the first i entries are written, and no others. Assumes nothing.
+use borrow.Author.Needs.{needs}
+use Prim.Native.Nat.{_-_}
+use native.Mathlib.Omega.{arith}
+use lib.ListN.{length}
+use Rattle.table.proofs.Putting.{Putting, putting-start, putting-step, putting-end}
 use Rattle.table.proofs.put.Statement.{statement}
 use Rattle.table.proofs.put.Tie as tie
-use Rattle.table.proofs.put.Reads as reads
-use Rattle.table.proofs.put.Lts as lts
-use Rattle.table.proofs.one_of.Reads as one-of-reads
 
 abbrev Inv-loop : tie.InvT-loop
-Inv-loop tasks noted result₀ last done i₀ result i = ?
+Inv-loop tasks noted result₀ last done i₀ result i = Putting tasks last done noted result₀ result i
 
 abbrev μ-loop : tie.MeasureT-loop
-μ-loop tasks noted result₀ last done i₀ result i = ?
+μ-loop tasks noted result₀ last done i₀ result i = length tasks - i
 
--- src/lib.rt:110:5
 loop-holds : tie.Need-loop-holds Inv-loop μ-loop
-loop-holds c = ?
+loop-holds c = putting-start _ _ _ _ _
 
--- src/lib.rt:111:17
 mul-k : tie.Need-mul-k Inv-loop μ-loop
-mul-k c = ?
+mul-k c = search needs
 
--- src/lib.rt:111:17
 shared-slice-read-k : tie.Need-shared-slice-read-k Inv-loop μ-loop
-shared-slice-read-k c = ?
+shared-slice-read-k c = search needs
 
--- src/lib.rt:111:17
 cast-k : tie.Need-cast-k Inv-loop μ-loop
-cast-k c = ?
+cast-k c = omega (arith, c .before .before .before .before .before .before .pre .1 .1 .1 (c .before .before .loop .i) (c .before .loop-test .taken))
 
--- src/lib.rt:112:19
 cast-own : tie.Need-cast-own Inv-loop μ-loop
-cast-own c = ?
+cast-own c = search needs
 
--- src/lib.rt:112:19
 add-own : tie.Need-add-own Inv-loop μ-loop
-add-own c = ?
+add-own c = search needs
 
--- src/lib.rt:113:28
 mul-one-of : tie.Need-mul-one-of Inv-loop μ-loop
-mul-one-of c = ?
+mul-one-of c = omega (arith, c .before .before .before .before .before .before .pre .1 .1 .1 (c .before .before .loop .i) (c .before .loop-test .taken))
 
--- src/lib.rt:113:28
 array-read-one-of : tie.Need-array-read-one-of Inv-loop μ-loop
-array-read-one-of c = ?
+array-read-one-of c = c .before .before .before .before .before .before .pre .1 .1 .1 (c .before .before .loop .i) (c .before .loop-test .taken)
 
--- src/lib.rt:113:42
 mul-one-of-2 : tie.Need-mul-one-of-2 Inv-loop μ-loop
-mul-one-of-2 c = ?
+mul-one-of-2 c = omega (arith, c .before .before .before .before .before .before .pre .1 .1 .1 (c .before .before .loop .i) (c .before .loop-test .taken))
 
--- src/lib.rt:113:42
 array-read-one-of-2 : tie.Need-array-read-one-of-2 Inv-loop μ-loop
-array-read-one-of-2 c = ?
+array-read-one-of-2 c = c .before .before .before .before .before .before .pre .1 .1 .1 (c .before .before .loop .i) (c .before .loop-test .taken)
 
--- src/lib.rt:113:57
 add-one-of : tie.Need-add-one-of Inv-loop μ-loop
-add-one-of c = ?
+add-one-of c = search needs
 
--- src/lib.rt:113:51
 mul-one-of-3 : tie.Need-mul-one-of-3 Inv-loop μ-loop
-mul-one-of-3 c = ?
+mul-one-of-3 c = search needs
 
--- src/lib.rt:113:51
 shared-slice-read-one-of : tie.Need-shared-slice-read-one-of Inv-loop μ-loop
-shared-slice-read-one-of c = ?
+shared-slice-read-one-of c = search needs
 
--- src/lib.rt:113:21
 one-of-requires : tie.Need-one-of-requires Inv-loop μ-loop
-one-of-requires c κs = ?
+one-of-requires c κs = search needs
 
--- src/lib.rt:113:9
 mul-result : tie.Need-mul-result Inv-loop μ-loop
-mul-result c = ?
+mul-result c = search needs
 
--- src/lib.rt:113:9
 slice-write-result : tie.Need-slice-write-result Inv-loop μ-loop
-slice-write-result c = ?
+slice-write-result c = search needs
 
--- src/lib.rt:114:9
 add-i : tie.Need-add-i Inv-loop μ-loop
-add-i c = ?
+add-i c = search needs
 
--- src/lib.rt:110:5
 loop-less : tie.Need-loop-less Inv-loop μ-loop
-loop-less c = ?
+loop-less c = search needs
 
--- src/lib.rt:110:5
 loop-again : tie.Need-loop-again Inv-loop μ-loop
-loop-again c = ?
+loop-again c = putting-step _ _ _ _ _ _ _ (c .before .before .before .before .loop .inv) _ (c .one-of .ensures) (c .before .before .before .loop-test .taken) (c .before .before .before .before .before .before .before .before .pre .1 .1 .0)
 
--- src/lib.rt:102:1
 same-length : tie.Need-same-length Inv-loop μ-loop
-same-length c = ?
+same-length c = c .before .loop .inv .room
 
--- src/lib.rt:102:1
 returns : tie.Need-returns Inv-loop μ-loop
-returns c = ?
+returns c = putting-end _ _ _ _ _ _ _ (c .before .loop .inv) (c .loop-test .left)
 
 pub put-spec : {M : Type 1} → statement M
 put-spec =

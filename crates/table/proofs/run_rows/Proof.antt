@@ -1,129 +1,157 @@
+-- `table::run_rows` meets its contract. The invariant: `Going`, what is known of the parts and of every row's completion after
+-- the first i rows. Assumes nothing.
+use Prim.Native.Nat.{_-_}
+use native.Mathlib.Omega.{arith}
+use denote.Ref.{now}
+use lib.ListN.{length}
+use Rattle.lists.specs.Lists.{at}
+use borrow.Author.Needs.{needs}
+use Rattle.table.proofs.Running.{Going, going-start, going-known, going-step, going-refused, going-room, going-mark, going-end}
 use Rattle.table.proofs.run_rows.Statement.{statement}
 use Rattle.table.proofs.run_rows.Tie as tie
-use Rattle.table.proofs.run_rows.Reads as reads
-use Rattle.table.proofs.run_rows.Lts as lts
-use Rattle.engine.proofs.ask.Reads as ask-reads
-use Rattle.engine.proofs.drain_on.Reads as drain-on-reads
 
 abbrev Inv-loop : tie.InvT-loop
 Inv-loop setup times tasks amounts noted₀ queue₀ owed₀ given₀ done₀ last₀ cursor₀ i₀ noted queue owed given done last cursor i =
-    ?
+    Going setup times tasks amounts noted₀ cursor queue owed given done last noted i
 
 abbrev μ-loop : tie.MeasureT-loop
 μ-loop setup times tasks amounts noted₀ queue₀ owed₀ given₀ done₀ last₀ cursor₀ i₀ noted queue owed given done last cursor i =
-    ?
+    length times - i
 
--- src/lib.rt:54:5
 loop-holds : tie.Need-loop-holds Inv-loop μ-loop
-loop-holds c = ?
+loop-holds c = going-start _ _ _ _ _ (c .before .before .before .before .pre .accepted)
 
--- src/lib.rt:55:20
 mul-task : tie.Need-mul-task Inv-loop μ-loop
-mul-task c = ?
+mul-task c = search needs
 
--- src/lib.rt:55:20
 shared-slice-read-task : tie.Need-shared-slice-read-task Inv-loop μ-loop
-shared-slice-read-task c = ?
+shared-slice-read-task c = search needs
 
--- src/lib.rt:56:19
 cast-row : tie.Need-cast-row Inv-loop μ-loop
-cast-row c = ?
+cast-row c = search needs
 
--- src/lib.rt:56:19
 add-row : tie.Need-add-row Inv-loop μ-loop
-add-row c = ?
+add-row c = search needs
 
--- src/lib.rt:60:13
 mul-ask : tie.Need-mul-ask Inv-loop μ-loop
-mul-ask c = ?
+mul-ask c = search needs
 
--- src/lib.rt:60:13
 shared-slice-read-ask : tie.Need-shared-slice-read-ask Inv-loop μ-loop
-shared-slice-read-ask c = ?
+shared-slice-read-ask c = search needs
 
--- src/lib.rt:62:13
 mul-ask-2 : tie.Need-mul-ask-2 Inv-loop μ-loop
-mul-ask-2 c = ?
+mul-ask-2 c = search needs
 
--- src/lib.rt:62:13
 shared-slice-read-ask-2 : tie.Need-shared-slice-read-ask-2 Inv-loop μ-loop
-shared-slice-read-ask-2 c = ?
+shared-slice-read-ask-2 c = search needs
 
--- src/lib.rt:57:13
 ask-requires : tie.Need-ask-requires Inv-loop μ-loop
-ask-requires c κs = ?
+ask-requires c κs =
+    let inv = c .before .before .before .before .before .before .before .before .loop .inv in
+    (inv .kept, inv .sound)
 
--- src/lib.rt:69:13
 same-length : tie.Need-same-length Inv-loop μ-loop
-same-length c = ?
+same-length c = c .before .before .before .before .before .before .before .before .before .before .before .loop .inv .rows .room
 
--- src/lib.rt:69:13
 returns : tie.Need-returns Inv-loop μ-loop
-returns c = ?
+returns c =
+    let asking = c .before .before in
+    let here = asking .before .before .before .before .before .before .before .before in
+    let fitting = here .before .before .before .before .before .before .pre in
+    going-refused _ _ _ _ _ fitting (here .before .loop .inv) (here .loop-test .taken) (asking .ask .result) (asking .ask .ensures) (c .if1 .taken) _ _
 
--- src/lib.rt:77:17
 cast-k : tie.Need-cast-k Inv-loop μ-loop
-cast-k c = ?
+cast-k c =
+    let asking = c .before .before in
+    let here = asking .before .before .before .before .before .before .before .before in
+    let fitting = here .before .before .before .before .before .before .pre in
+    omega (arith, going-known _ _ _ _ _ fitting (here .before .loop .inv) (here .loop-test .taken) (asking .ask .result) (asking .ask .ensures) (c .if1 .left))
 
--- src/lib.rt:78:22
 mul-before : tie.Need-mul-before Inv-loop μ-loop
-mul-before c = ?
+mul-before c =
+    let asking = c .before .before in
+    let here = asking .before .before .before .before .before .before .before .before in
+    let fitting = here .before .before .before .before .before .before .pre in
+    omega (arith, going-known _ _ _ _ _ fitting (here .before .loop .inv) (here .loop-test .taken) (asking .ask .result) (asking .ask .ensures) (c .if1 .left))
 
--- src/lib.rt:78:22
 array-read-before : tie.Need-array-read-before Inv-loop μ-loop
-array-read-before c = ?
+array-read-before c =
+    let asking = c .before .before in
+    let here = asking .before .before .before .before .before .before .before .before in
+    let fitting = here .before .before .before .before .before .before .pre in
+    going-known _ _ _ _ _ fitting (here .before .loop .inv) (here .loop-test .taken) (asking .ask .result) (asking .ask .ensures) (c .if1 .left)
 
--- src/lib.rt:78:22
 cast-before : tie.Need-cast-before Inv-loop μ-loop
-cast-before c = ?
+cast-before c =
+    let here = c .before .before .before .before .before .before .before .before .before .before in
+    let mark = going-mark _ _ _ _ _ (here .before .before .before .before .before .before .pre) (here .before .loop .inv) (at (now (here .before .before .before .before .before .before .args .tasks)) (here .before .loop .i)) (here .loop-test .taken) in
+    omega (arith, mark .1)
 
--- src/lib.rt:79:25
 mul-noted : tie.Need-mul-noted Inv-loop μ-loop
-mul-noted c = ?
+mul-noted c =
+    let asking = c .before .before in
+    let here = asking .before .before .before .before .before .before .before .before in
+    let fitting = here .before .before .before .before .before .before .pre in
+    omega (arith, going-known _ _ _ _ _ fitting (here .before .loop .inv) (here .loop-test .taken) (asking .ask .result) (asking .ask .ensures) (c .if1 .left))
 
--- src/lib.rt:79:25
 array-read-noted : tie.Need-array-read-noted Inv-loop μ-loop
-array-read-noted c = ?
+array-read-noted c =
+    let asking = c .before .before in
+    let here = asking .before .before .before .before .before .before .before .before in
+    let fitting = here .before .before .before .before .before .before .pre in
+    going-known _ _ _ _ _ fitting (here .before .loop .inv) (here .loop-test .taken) (asking .ask .result) (asking .ask .ensures) (c .if1 .left)
 
--- src/lib.rt:79:9
 mul-noted-2 : tie.Need-mul-noted-2 Inv-loop μ-loop
-mul-noted-2 c = ?
+mul-noted-2 c =
+    let here = c .before .before .before .before .before .before .before .before .before .before in
+    let mark = going-mark _ _ _ _ _ (here .before .before .before .before .before .before .pre) (here .before .loop .inv) (at (now (here .before .before .before .before .before .before .args .tasks)) (here .before .loop .i)) (here .loop-test .taken) in
+    omega (arith, mark .1)
 
--- src/lib.rt:79:9
 slice-write-noted : tie.Need-slice-write-noted Inv-loop μ-loop
-slice-write-noted c = ?
+slice-write-noted c =
+    let here = c .before .before .before .before .before .before .before .before .before .before in
+    let mark = going-mark _ _ _ _ _ (here .before .before .before .before .before .before .pre) (here .before .loop .inv) (at (now (here .before .before .before .before .before .before .args .tasks)) (here .before .loop .i)) (here .loop-test .taken) in
+    mark .0
 
--- src/lib.rt:80:9
 mul-last : tie.Need-mul-last Inv-loop μ-loop
-mul-last c = ?
+mul-last c =
+    let asking = c .before .before in
+    let here = asking .before .before .before .before .before .before .before .before in
+    let fitting = here .before .before .before .before .before .before .pre in
+    omega (arith, going-known _ _ _ _ _ fitting (here .before .loop .inv) (here .loop-test .taken) (asking .ask .result) (asking .ask .ensures) (c .if1 .left))
 
--- src/lib.rt:80:9
 array-write-last : tie.Need-array-write-last Inv-loop μ-loop
-array-write-last c = ?
+array-write-last c =
+    let asking = c .before .before in
+    let here = asking .before .before .before .before .before .before .before .before in
+    let fitting = here .before .before .before .before .before .before .pre in
+    going-known _ _ _ _ _ fitting (here .before .loop .inv) (here .loop-test .taken) (asking .ask .result) (asking .ask .ensures) (c .if1 .left)
 
--- src/lib.rt:82:9
 add-i : tie.Need-add-i Inv-loop μ-loop
-add-i c = ?
+add-i c = search needs
 
--- src/lib.rt:54:5
 loop-less : tie.Need-loop-less Inv-loop μ-loop
-loop-less c = ?
+loop-less c = search needs
 
--- src/lib.rt:54:5
 loop-again : tie.Need-loop-again Inv-loop μ-loop
-loop-again c = ?
+loop-again c =
+    let asking = c .before .before .before in
+    let here = asking .before .before .before .before .before .before .before .before in
+    let fitting = here .before .before .before .before .before .before .pre in
+    going-step _ _ _ _ _ fitting (here .before .loop .inv) (here .loop-test .taken) (asking .ask .result) (asking .ask .ensures) (c .before .if1 .left)
 
--- src/lib.rt:84:9
 drain-on-requires : tie.Need-drain-on-requires Inv-loop μ-loop
-drain-on-requires c κs = ?
+drain-on-requires c κs =
+    let inv = c .before .before .before .before .before .loop .inv in
+    (inv .kept, (inv .sound, going-room _ _ _ _ _ (c .before .before .before .before .before .before .before .before .before .before .pre) inv))
 
--- src/lib.rt:33:1
 same-length-2 : tie.Need-same-length-2 Inv-loop μ-loop
-same-length-2 c = ?
+same-length-2 c = c .before .before .before .before .before .before .loop .inv .rows .room
 
--- src/lib.rt:33:1
 returns-2 : tie.Need-returns-2 Inv-loop μ-loop
-returns-2 c = ?
+returns-2 c =
+    let ended = c .before .before .before .before .before in
+    going-end _ _ _ _ _ (ended .before .before .before .before .before .before .pre) (ended .before .loop .inv) (ended .loop-test .left) (c .drain-on .result) (c .drain-on .ensures)
 
 pub run-rows-spec : {M : Type 1} → statement M
 run-rows-spec =
