@@ -1,6 +1,5 @@
 // Judging a setup, refusals 1 to 4, and putting it together: one place for runs, tables and logs.
 use rule::Setup;
-
 ghost use mathlib.Core.Path.{_≡_};
 ghost use mathlib.Core.Bool.{_||_};
 ghost use Prim.Native.Nat.{ℕ, _≤_};

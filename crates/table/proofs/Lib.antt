@@ -1,3 +1,4 @@
 pub mod Taking
 pub mod Running
 pub mod Putting
+pub mod Columns

@@ -11,7 +11,7 @@ use Rattle.lists.proofs.Totals.{at-set-same, at-set-other}
 use Rattle.rule.specs.State.{State}
 use Rattle.rule.specs.Calls.{Call}
 use Rattle.rule.specs.Table.{Outcome, completions, outcomeFrom, written}
-use Rattle.table.specs.Tabled.{Tabled}
+use Rattle.table.specs.Answers.{Answers}
 use Rattle.table.specs.Inside.{settled, Runs, Writes}
 use Rattle.table.specs.declared.Ran.{Ran}
 use Rattle.table.specs.declared.TableAnswer.the-variants.{Finished, Refused}
@@ -57,10 +57,10 @@ module _ (ks last done noted before after : List ℕ) (i : ℕ) (P : Putting ks 
 
 module _ (s : State) (cs : List Call) (ks : List ℕ) (r : Ran) (noted₀ noted : List ℕ) (R : Runs s cs ks r noted₀ noted)
     (before : List ℕ) where
-  pub answer-refused : (r .refusal ≡ 0 → ⊥) → Tabled (outcomeFrom s cs) before (Refused (r .refusal) (r .row)) before
+  pub answer-refused : (r .refusal ≡ 0 → ⊥) → Answers (outcomeFrom s cs) before (Refused (r .refusal) (r .row)) before
   unfolding written
   answer-refused z =
-      subst (λ (o : Outcome). Tabled o before (Refused (r .refusal) (r .row)) before) (sym (R .stopped z))
+      subst (λ (o : Outcome). Answers o before (Refused (r .refusal) (r .row)) before) (sym (R .stopped z))
       record { answer = refl; column = refl }
 
   module _ (z : r .refusal ≡ 0) (after : List ℕ) (W : Writes ks (r .last) (r .done) noted before after)
@@ -75,15 +75,15 @@ module _ (s : State) (cs : List Call) (ks : List ℕ) (r : Ran) (noted₀ noted 
         ext-getD 0 (take (length ks) after) D (long ∙ sym (A .many))
         (λ j g. getD-take (length ks) after j 0 (omega arith) ∙ W .each j (omega arith) ∙ sym (A .each j (omega arith)))
 
-    pub answer-finished : Tabled (outcomeFrom s cs) before (Finished (r .end)) after
+    pub answer-finished : Answers (outcomeFrom s cs) before (Finished (r .end)) after
     unfolding written
     answer-finished =
         let A = R .taken z in
-        subst (λ (o : Outcome). Tabled o before (Finished (r .end)) after) (sym (A .ends))
+        subst (λ (o : Outcome). Answers o before (Finished (r .end)) after) (sym (A .ends))
         record {
           answer = refl;
           column =
-            sym (take-append-drop (length ks) after)
-            ∙ ap₂ (λ (l m : List ℕ). l ++ m) front (W .stays)
-            ∙ ap (λ (n : ℕ). D ++ drop n before) (sym (A .many));
+              sym (take-append-drop (length ks) after)
+              ∙ ap₂ (λ (l m : List ℕ). l ++ m) front (W .stays)
+              ∙ ap (λ (n : ℕ). D ++ drop n before) (sym (A .many));
         }

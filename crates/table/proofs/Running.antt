@@ -81,13 +81,12 @@ module _ (p : Setup) (ts ks ms noted₀ : List ℕ) where
         sound = subst Sound (sym e) (fresh-sound p z);
         soon = zero-le;
         rows =
-          subst (λ (s : State). Kept ts ks ms (fresh p) s zeros32 noted₀ 0 (length noted₀)) (sym e)
-          (kept-start ts ks ms (fresh p) noted₀);
+            subst (λ (s : State). Kept ts ks ms (fresh p) s zeros32 noted₀ 0 (length noted₀)) (sym e)
+            (kept-start ts ks ms (fresh p) noted₀);
       }
 
   module _ (F : Fitting p ts ks ms noted₀) {c : Cursor} {q o g d last noted : List ℕ} {i : ℕ}
       (G : Going c q o g d last noted i) where
-
     pub going-room : c .clock + total o ≤ lastClock
     going-room = omega (arith, G .soon, owed-limit (parts p c q o g d) (G .sound))
 
@@ -98,7 +97,6 @@ module _ (p : Setup) (ts ks ms noted₀ : List ℕ) where
 
     module _ (h : i < length ts) (r : Asked) {q′ o′ g′ d′ : List ℕ}
         (A : Asks p (at ts i) (at ks i) (at ms i) r q′ (parts p c q o g d) (parts p (r .cursor) q′ o′ g′ d′)) where
-
       abbrev row : Call
       row = request (at ts i) (at ks i) (at ms i)
 
@@ -146,10 +144,10 @@ module _ (p : Setup) (ts ks ms noted₀ : List ℕ) where
               sound = A .left .sound;
               soon = rw t (late accepted);
               rows =
-                subst (λ (s : State). Kept ts ks ms (fresh p) s (set last (at ks i) (i + 1))
-                    (set noted (at last (at ks i)) (at (s .done) (at ks i))) (i + 1) (length noted₀))
-                (sym called)
-                (kept-step ts ks ms (F .tasks-too) (F .amounts-too) i h (fresh p) _ last noted _ (G .rows) accepted going-known (F .room));
+                  subst (λ (s : State). Kept ts ks ms (fresh p) s (set last (at ks i) (i + 1))
+                  (set noted (at last (at ks i)) (at (s .done) (at ks i))) (i + 1) (length noted₀))
+                  (sym called)
+                  (kept-step ts ks ms (F .tasks-too) (F .amounts-too) i h (fresh p) _ last noted _ (G .rows) accepted going-known (F .room));
             }
           where
             late : refusal (parts p c q o g d) row ≡ 0 → at ts i ≤ lastTime
@@ -172,8 +170,8 @@ module _ (p : Setup) (ts ks ms noted₀ : List ℕ) where
               record {
                 known = kept-known ts ks ms (F .tasks-too) (fresh p) s last noted i n (G .rows) h;
                 ends =
-                  kept-outcome ts ks ms (F .tasks-too) (fresh p) s last noted i n (G .rows) h
-                  ∙ ap (λ (x : State). finished (completions (fresh p) (rows ts ks ms)) (x .clock)) (sym e);
+                    kept-outcome ts ks ms (F .tasks-too) (fresh p) s last noted i n (G .rows) h
+                    ∙ ap (λ (x : State). finished (completions (fresh p) (rows ts ks ms)) (x .clock)) (sym e);
                 many = kept-many ts ks ms (F .tasks-too) (fresh p) s last noted i n (G .rows) h;
                 each = λ j g₁.
                     kept-each ts ks ms (F .tasks-too) (fresh p) s last noted i n (G .rows) h j g₁

@@ -9,7 +9,7 @@ ghost use Rattle.rule.specs.Setups.{asked, setupRefusal};
 ghost use Rattle.rule.specs.State.{fresh};
 ghost use Rattle.rule.specs.Table.{rows, outcomeFrom, columnRefusal};
 ghost use Rattle.rule.specs.Table as table;
-ghost use Rattle.table.specs.Tabled.{Tabled};
+ghost use Rattle.table.specs.Answers.{Answers};
 ghost use Rattle.table.specs.Inside.{Fitting, Known, Runs, Writes};
 
 // The end; or a refusal with its number, and the row from 1 where a row is at fault, else 0.
@@ -131,10 +131,16 @@ fn column_refusal(times: usize, tasks: usize, amounts: usize, room: usize) -> u3
 }
 
 // The rows of an accepted setup and of columns that fit.
-fn run_table(setup: Setup, times: &[u32], tasks: &[u32], amounts: &[u32], result: &mut [u32]) -> TableAnswer
+fn run_table(
+    setup: Setup,
+    times: &[u32],
+    tasks: &[u32],
+    amounts: &[u32],
+    result: &mut [u32],
+) -> TableAnswer
     requires { ⌜ setupRefusal setup ≡ 0 ⌝ }
     requires { ⌜ columnRefusal (length (now times)) (length (now tasks)) (length (now amounts)) (length (now result)) ≡ 0 ⌝ }
-    ensures { λ r. ⌜ Tabled (outcomeFrom (fresh setup) (rows (now (times .entry)) (now (tasks .entry)) (now (amounts .entry)))) (now (result .entry)) r (now (result .exit)) ⌝ }
+    ensures { λ r. ⌜ Answers (outcomeFrom (fresh setup) (rows (now (times .entry)) (now (tasks .entry)) (now (amounts .entry)))) (now (result .entry)) r (now (result .exit)) ⌝ }
 {
     let mut noted = [0u32; 1025];
     let ran = run_rows(setup, times, tasks, amounts, &mut noted);
@@ -159,7 +165,7 @@ pub fn table(
     amounts: &[u32],
     result: &mut [u32],
 ) -> TableAnswer
-    ensures { λ r. ⌜ Tabled (table.table (asked policy count slice (now (priorities .entry))) (now (times .entry)) (now (tasks .entry)) (now (amounts .entry)) (length (now (result .entry)))) (now (result .entry)) r (now (result .exit)) ⌝ }
+    ensures { λ r. ⌜ Answers (table.table (asked policy count slice (now (priorities .entry))) (now (times .entry)) (now (tasks .entry)) (now (amounts .entry)) (length (now (result .entry)))) (now (result .entry)) r (now (result .exit)) ⌝ }
 {
     let wrong = setups::setup_refusal(policy, count, slice, priorities);
     if wrong != 0 {

@@ -1,38 +1,58 @@
+-- `table::run_table` meets its contract: the rows are run, and then refused or written. Assumes nothing.
+use native.Mathlib.Omega.{arith}
 use borrow.Author.Needs.{needs}
+use denote.Ref.{now}
+use lib.ListN.{length}
+use Rattle.laws.specs.Rows.{Tabled}
+use Rattle.table.proofs.Columns.{columns-tabled, columns-fitting}
+use Rattle.table.proofs.Putting.{answer-refused, answer-finished}
 use Rattle.table.proofs.run_table.Statement.{statement}
 use Rattle.table.proofs.run_table.Tie as tie
-use Rattle.table.proofs.run_table.Reads as reads
-use Rattle.table.proofs.run_table.Lts as lts
-use Rattle.table.proofs.put.Reads as put-reads
-use Rattle.table.proofs.run_rows.Reads as run-rows-reads
 
--- src/lib.rt:140:54
+-- what columns that fit have
+tabled : (c : tie.Start)
+    → Tabled (c .args .setup) (length (now (c .args .times))) (length (now (c .args .tasks))) (length (now (c .args .amounts)))
+    (length (now (c .args .result)))
+tabled c =
+    columns-tabled (c .args .setup) (now (c .args .times)) (now (c .args .tasks)) (now (c .args .amounts))
+    (now (c .args .result)) (c .pre .0) (c .pre .1)
+
 slice-aggregate-run-rows : tie.Need-slice-aggregate-run-rows
 slice-aggregate-run-rows c = search needs
 
--- src/lib.rt:140:9
 run-rows-requires : tie.Need-run-rows-requires
-run-rows-requires c κs = ?
+run-rows-requires c κs =
+    let s = c .before .before .before .before .before in
+    columns-fitting (s .args .setup) (now (s .args .times)) (now (s .args .tasks)) (now (s .args .amounts))
+    (now (s .args .result)) (s .pre .0) (s .pre .1) _ (omega arith)
 
--- src/lib.rt:142:9
 returns : tie.Need-returns
-returns c = ?
+returns c = answer-refused _ _ _ _ _ _ (c .before .before .before .run-rows .ensures) _ (c .if1 .taken)
 
--- src/lib.rt:146:28
 slice-aggregate-put : tie.Need-slice-aggregate-put
 slice-aggregate-put c = search needs
 
--- src/lib.rt:146:5
 put-requires : tie.Need-put-requires
-put-requires c κs = ?
+put-requires c κs =
+    let ran = c .before .before .before .before .before .before .before in
+    let q = tabled (ran .before .before .before .before .before .before) in
+    let runs = ran .run-rows .ensures in (
+      omega (arith, q .tasks-equal, q .few),
+      (
+        omega (arith, q .tasks-equal, q .few, runs .room),
+        (omega (arith, q .tasks-equal, q .fits), runs .taken (c .before .before .before .before .if1 .left) .known),
+      ),
+    )
 
--- src/lib.rt:134:1
 same-length : tie.Need-same-length
 same-length c = search needs
 
--- src/lib.rt:134:1
 returns-2 : tie.Need-returns-2
-returns-2 c = ?
+returns-2 c =
+    let ran = c .before .before .before .before .before .before .before .before .before .before in
+    let q = tabled (ran .before .before .before .before .before .before) in
+    answer-finished _ _ _ _ _ _ (ran .run-rows .ensures) _ (c .before .before .before .before .before .before .before .if1 .left) _ (c .before .before .put .ensures)
+    (omega (arith, q .tasks-equal, q .fits))
 
 pub run-table-spec : {M : Type 1} → statement M
 run-table-spec =

@@ -1,44 +1,63 @@
+-- `table::table` meets its contract: refused by its setup, refused by its columns, or run. Assumes nothing.
+use mathlib.Core.Path.{_≡_, sym, _∙_, subst}
 use borrow.Author.Needs.{needs}
+use denote.Ref.{now}
+use Rattle.rule.specs.Setups.{asked, setupRefusal}
+use Rattle.rule.specs.declared.Setup.{Setup}
+use Rattle.laws.proofs.Refusals.{setup-taken}
+use Rattle.table.proofs.Columns.{table-misset, table-misfit, table-runs}
 use Rattle.table.proofs.table.Statement.{statement}
 use Rattle.table.proofs.table.Tie as tie
-use Rattle.table.proofs.table.Reads as reads
-use Rattle.table.proofs.table.Lts as lts
-use Rattle.setups.proofs.setup_of.Reads as setup-of-reads
-use Rattle.setups.proofs.setup_refusal.Reads as setup-refusal-reads
-use Rattle.table.proofs.column_refusal.Reads as column-refusal-reads
-use Rattle.table.proofs.run_table.Reads as run-table-reads
 
--- src/lib.rt:164:9
+-- the places: past the test of the columns, past the test of the setup, and the call's start
+abbrev past1 : tie.Else2 → tie.Else1
+past1 c = c .before .before
+
+abbrev start : tie.Else1 → tie.Start
+start c = c .before .before .before .before .before .before .before
+
+abbrev wanted : tie.Start → Setup
+wanted c = asked (c .args .policy) (c .args .count) (c .args .slice) (now (c .args .priorities))
+
+setup-fits : (c : tie.Else1) → setupRefusal (wanted (start c)) ≡ 0
+setup-fits c = sym (c .before .setup-refusal .ensures) ∙ c .if1 .left
+
 setup-refusal-requires : tie.Need-setup-refusal-requires
 setup-refusal-requires c κs = search needs
 
--- src/lib.rt:166:9
 returns : tie.Need-returns
-returns c = ?
+returns c =
+    let s = c .before .before .before .before .before .before .before in
+    table-misset (wanted s) _ _ _ _ _ (c .before .setup-refusal .ensures) (c .if1 .taken)
 
--- src/lib.rt:168:9
 column-refusal-requires : tie.Need-column-refusal-requires
 column-refusal-requires c κs = search needs
 
--- src/lib.rt:170:9
 returns-2 : tie.Need-returns-2
-returns-2 c = ?
+returns-2 c =
+    let one = c .before .before in
+    table-misfit (wanted (start one)) _ _ _ _ _ (setup-fits one) (c .before .column-refusal .ensures) (c .if2 .taken)
 
--- src/lib.rt:172:9
 setup-of-requires : tie.Need-setup-of-requires
-setup-of-requires c κs = ?
+setup-of-requires c κs = setup-taken _ (setup-fits (past1 c)) .bytes
 
--- src/lib.rt:173:5
 run-table-requires : tie.Need-run-table-requires
-run-table-requires c κs = ?
+run-table-requires c κs =
+    let two = c .before .before in (
+      subst (λ (p : Setup). setupRefusal p ≡ 0) (sym (c .before .setup-of .ensures)) (setup-fits (past1 two)),
+      sym (two .before .column-refusal .ensures) ∙ two .if2 .left,
+    )
 
--- src/lib.rt:152:1
 same-length : tie.Need-same-length
 same-length c = search needs
 
--- src/lib.rt:152:1
 returns-3 : tie.Need-returns-3
-returns-3 c = ?
+returns-3 c =
+    let two = c .before .before .before .before .before in
+    table-runs (wanted (start (past1 two))) _ _ _ _ (setup-fits (past1 two))
+    (sym (two .before .column-refusal .ensures) ∙ two .if2 .left)
+    (c .before .before .before .before .setup-of .ensures)
+    (c .before .before .run-table .ensures)
 
 pub table-spec : {M : Type 1} → statement M
 table-spec =

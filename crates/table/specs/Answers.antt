@@ -12,6 +12,6 @@ answerOf (finished ts end) = Finished end
 answerOf (refused n i) = Refused n i
 
 -- o is the outcome that the rule gives, and `before` and `after` are the result column
-pub record Tabled (o : Outcome) (before : List ℕ) (r : TableAnswer) (after : List ℕ) : Type 0 where
+pub record Answers (o : Outcome) (before : List ℕ) (r : TableAnswer) (after : List ℕ) : Type 0 where
   pub answer : r ≡ answerOf o
   pub column : after ≡ written o before

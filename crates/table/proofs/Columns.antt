@@ -1,0 +1,78 @@
+-- The refusals before the rows: what columns that fit have, and the three ways in which a table is answered. Assumes nothing.
+use Prim.Native.Nat.{ℕ, _≤_, _<_}
+use native.Mathlib.Omega.{arith}
+use mathlib.Core.Path.{_≡_, refl, sym, ap, _∙_, subst}
+use mathlib.Core.List.{List}
+use lib.ListN.{length}
+use lib.Dec.{eqb}
+use borrow.Author.Tests.{eq-eqb, ne-eqb}
+use Rattle.lists.proofs.Testing.{cond-true, cond-false}
+use Rattle.rule.specs.Setups.{setupRefusal}
+use Rattle.rule.specs.State.{fresh}
+use Rattle.rule.specs.Table.{Outcome, refused, outcomeFrom, rows, columnRefusal, tableRefusal, tableFrom, table, written}
+use Rattle.rule.specs.declared.Setup.{Setup}
+use Rattle.laws.specs.Rows.{Tabled}
+use Rattle.laws.proofs.Tables.{table-tabled}
+use Rattle.table.specs.Answers.{Answers}
+use Rattle.table.specs.Inside.{Fitting}
+use Rattle.table.specs.declared.TableAnswer.{TableAnswer}
+use Rattle.table.specs.declared.TableAnswer.the-variants.{Refused}
+
+module _ (p : Setup) (ts ks ms before : List ℕ) where
+  abbrev misfit : ℕ
+  misfit = columnRefusal (length ts) (length ks) (length ms) (length before)
+
+  abbrev judged : ℕ
+  judged = tableRefusal p (length ts) (length ks) (length ms) (length before)
+
+  judged-setup : (setupRefusal p ≡ 0 → ⊥) → judged ≡ setupRefusal p
+  unfolding tableRefusal
+  judged-setup z = cond-false _ _ (ne-eqb (setupRefusal p) 0 z)
+
+  judged-columns : setupRefusal p ≡ 0 → judged ≡ misfit
+  unfolding tableRefusal
+  judged-columns z = cond-true _ _ (eq-eqb (setupRefusal p) 0 z)
+
+  -- ---- columns that fit
+
+  module _ (z : setupRefusal p ≡ 0) (f : misfit ≡ 0) where
+    pub columns-tabled : Tabled p (length ts) (length ks) (length ms) (length before)
+    columns-tabled = table-tabled p (length ts) (length ks) (length ms) (length before) (judged-columns z ∙ f)
+
+    pub columns-fitting : (noted : List ℕ) → 1_024 < length noted → Fitting p ts ks ms noted
+    columns-fitting noted h =
+        let q = columns-tabled in
+        record {
+          accepted = z;
+          tasks-too = q .tasks-equal;
+          amounts-too = q .amounts-equal;
+          few = q .few;
+          room = omega (arith, q .few);
+        }
+
+  -- ---- the three ways
+
+  refused-at : (n : ℕ) → judged ≡ n → (n ≡ 0 → ⊥) → Answers (table p ts ks ms (length before)) before (Refused n 0) before
+  unfolding table tableFrom written
+  refused-at n e z =
+      subst (λ (o : Outcome). Answers o before (Refused n 0) before)
+      (sym (ap (λ (m : ℕ). tableFrom m p (rows ts ks ms)) e ∙ cond-false _ _ (ne-eqb n 0 z)))
+      record { answer = refl; column = refl }
+
+  pub table-misset : (n : ℕ) → n ≡ setupRefusal p → (n ≡ 0 → ⊥)
+      → Answers (table p ts ks ms (length before)) before (Refused n 0) before
+  table-misset n e z = refused-at n (judged-setup (λ y. z (e ∙ y)) ∙ sym e) z
+
+  pub table-misfit : (n : ℕ) → setupRefusal p ≡ 0 → n ≡ misfit → (n ≡ 0 → ⊥)
+      → Answers (table p ts ks ms (length before)) before (Refused n 0) before
+  table-misfit n s e z = refused-at n (judged-columns s ∙ sym e) z
+
+  pub table-runs : setupRefusal p ≡ 0 → misfit ≡ 0 → {q : Setup} → q ≡ p → {r : TableAnswer} {after : List ℕ}
+      → Answers (outcomeFrom (fresh q) (rows ts ks ms)) before r after
+      → Answers (table p ts ks ms (length before)) before r after
+  unfolding table tableFrom
+  table-runs s f e {r} {after} h =
+      subst (λ (o : Outcome). Answers o before r after)
+      (ap (λ (x : Setup). outcomeFrom (fresh x) (rows ts ks ms)) e
+      ∙ sym (cond-true _ _ (eq-eqb judged 0 (judged-columns s ∙ f))))
+      h
