@@ -1,6 +1,6 @@
 -- What the functions on a run's parts ask and promise. In order: places of the queue's array; a row of ticks to one task;
 -- moves of the clock; a request; the next completion; a run taken apart. Primed names are arrays afterwards. Assumes nothing.
-use Prim.Native.Nat.{ℕ, _+_, _-_, _≤_, _<_}
+use Prim.Native.Nat.{ℕ, _+_, _-_, _*_, _≤_, _<_}
 use mathlib.Core.Path.{_≡_}
 use mathlib.Core.Bool.{true, false, cond, not}
 use mathlib.Core.List.{List, [], _∷_}
@@ -28,6 +28,11 @@ use Rattle.engine.specs.declared.Completion.{Completion}
 -- every entry is the number of a task
 abbrev pub Tasks : List ℕ → Type 0
 Tasks q = (k : ℕ) → at q k < 32
+
+-- "the greatest priority number ..; among equals, .. the smaller task number": of two tasks the one with the greater key
+-- goes first
+abbrev pub key : List ℕ → ℕ → ℕ
+key prio task = at prio task * 32 + (31 - task)
 
 -- Among the first n places, that of the task that goes first; place 0 where n is 0.
 pub record Best (prio : List ℕ) (n : ℕ) (q : List ℕ) (place : ℕ) : Type 0 where
