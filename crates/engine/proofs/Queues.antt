@@ -1,6 +1,6 @@
 -- Laws of the queue in its array, over the policy. In order: its tasks; who is chosen; heads; a task that leaves; the queue
 -- from place 0 on, and a task that joins. Assumes nothing.
-use Prim.Native.Nat.{ℕ, zero, suc, _+_, _-_, _≤_, _<_, zero-le}
+use Prim.Native.Nat.{ℕ, zero, suc, _+_, _-_, _*_, _≤_, _<_, zero-le}
 use native.Mathlib.Omega.{arith}
 use native.Mathlib.Numerals.{add-one}
 use native.Mathlib.Nat.{not-suc-le-zero, le-of-suc-le-suc}
@@ -10,7 +10,7 @@ use mathlib.Core.List.{List, [], _∷_, _++_}
 use lib.ListN.{length, set, take, drop, length-append, length-drop, take-append-drop, drop-of-length-le}
 use lib.Seq.{length-take-le, getD-take, take-at, drop-at, take-take, take-suc, take-set-le, take-suc-set, slice-cons}
 use lib.Dec.{ltb}
-use borrow.Author.Tests.{lt-ltb, ltb-true, ltb-false}
+use borrow.Author.Tests.{lt-ltb, le-ltb, ltb-true, ltb-false}
 use Rattle.lists.specs.Lists.{at, times, without}
 use Rattle.lists.proofs.Testing.{tested, equal-or, cond-true, cond-false}
 use Rattle.lists.proofs.Totals.{at-set-other}
@@ -19,7 +19,7 @@ use Rattle.rule.specs.Setups.{isPriority}
 use Rattle.rule.specs.Tick.{before, best, chosen}
 use Rattle.rule.specs.declared.Setup.{Setup}
 use Rattle.engine.specs.Parts.{ring, queueAt, takenOut}
-use Rattle.engine.specs.Promises.{Best, Heads}
+use Rattle.engine.specs.Promises.{Tasks, key, Best, Heads}
 use Rattle.engine.proofs.Rings.{ring-zero, ring-length, ring-times, ring-head, take-takenOut, ring-takenOut}
 
 -- ---- the tasks of the queue
@@ -73,41 +73,66 @@ chosen-robin s h n q e b l = ap (chosen s) (queueAt-robin s h n q e ∙ ring-hea
 
 -- ---- heads
 
--- of the first k tasks, the one that goes first is top, at its place
+-- the greater key goes first
+before-key : (prio : List ℕ) (a b : ℕ) → a < 32 → b < 32 → before prio a b ≡ cond (ltb (key prio a) (key prio b)) b a
+unfolding before
+before-key prio a b ha hb =
+    tested (ltb (at prio a) (at prio b))
+    (λ e. rw (e, lt-ltb (key prio a) (key prio b) (omega (arith, ltb-true (at prio a) (at prio b) e))))
+    (λ e.
+    tested (ltb (at prio b) (at prio a))
+    (λ f. rw (e, f, le-ltb (key prio a) (key prio b) (omega (arith, ltb-true (at prio b) (at prio a) f))))
+    (λ f.
+    let level : at prio a ≡ at prio b =
+    omega (arith, ltb-false (at prio a) (at prio b) e, ltb-false (at prio b) (at prio a) f) in
+    tested (ltb b a)
+    (λ g. rw (e, f, g, lt-ltb (key prio a) (key prio b) (omega (arith, ltb-true b a g))))
+    (λ g. rw (e, f, g, le-ltb (key prio a) (key prio b) (omega (arith, ltb-false b a g))))))
+
+-- of the first k tasks, the one that goes first is that at the place, with the key top
 pub record Scanned (prio : List ℕ) (n : ℕ) (q : List ℕ) (place top k : ℕ) : Type 0 where
   pub inside : place ≤ n - 1
-  pub stands : top ≡ at q place
-  pub ahead : best prio (at q 0) (drop 1 (take n q)) ≡ best prio top (drop k (take n q))
+  pub keyed : top ≡ key prio (at q place)
+  pub ahead : best prio (at q 0) (drop 1 (take n q)) ≡ best prio (at q place) (drop k (take n q))
 
-pub scanned-step : (prio : List ℕ) (n : ℕ) (q : List ℕ) (place top k : ℕ) (b : Bool) (place′ top′ : ℕ) → k < n
-    → n ≤ length q → before prio top (at q k) ≡ cond b (at q k) top → place′ ≡ cond b k place
-    → top′ ≡ cond b (at q k) top → Scanned prio n q place top k → Scanned prio n q place′ top′ (k + 1)
+pub scanned-step : (prio : List ℕ) (n : ℕ) (q : List ℕ) (place top k other place′ top′ : ℕ) → k < n → n ≤ length q
+    → Tasks q → other ≡ key prio (at q k) → place′ ≡ cond (ltb top other) k place → top′ ≡ cond (ltb top other) other top
+    → Scanned prio n q place top k → Scanned prio n q place′ top′ (k + 1)
 unfolding best
-scanned-step prio n q place top k b place′ top′ h l first p t S =
+scanned-step prio n q place top k other place′ top′ h l known o p t S =
     record {
-      inside = rw p (inside b);
-      stands = rw (t, p) (stands b);
+      inside = rw p (inside (ltb top other));
+      keyed = rw (t, p) (keyed (ltb top other));
       ahead =
           S .ahead
-          ∙ ap (best prio top) (slice-cons k n q 0 h l)
-          ∙ ap (λ (x : ℕ). best prio x (drop (suc k) (take n q))) (first ∙ sym t)
-          ∙ ap (λ (j : ℕ). best prio top′ (drop j (take n q))) (sym (add-one k));
+          ∙ ap (best prio (at q place)) (slice-cons k n q 0 h l)
+          ∙ ap (λ (x : ℕ). best prio x (drop (suc k) (take n q))) first
+          ∙ ap (λ (j : ℕ). best prio (at q place′) (drop j (take n q))) (sym (add-one k));
     }
   where
     inside : (b : Bool) → cond b k place ≤ n - 1
     inside true = omega arith
     inside false = S .inside
 
-    stands : (b : Bool) → cond b (at q k) top ≡ at q (cond b k place)
-    stands true = refl
-    stands false = S .stands
+    keyed : (b : Bool) → cond b other top ≡ key prio (at q (cond b k place))
+    keyed true = o
+    keyed false = S .keyed
+
+    place-at : (b : Bool) → cond b (at q k) (at q place) ≡ at q (cond b k place)
+    place-at true = refl
+    place-at false = refl
+
+    first : before prio (at q place) (at q k) ≡ at q place′
+    first =
+        before-key prio (at q place) (at q k) (known place) (known k)
+        ∙ rw (p, ← o, ← S .keyed) (place-at (ltb top other))
 
 pub scanned-end : (prio : List ℕ) (n : ℕ) (q : List ℕ) (place top k : ℕ) → n ≤ k → n ≤ length q
     → Scanned prio n q place top k → Best prio n q place
 unfolding best
 scanned-end prio n q place top k h l S =
     let z : drop k (take n q) ≡ [] = drop-of-length-le (take n q) {i = k} (omega (arith, length-take-le n q l)) in
-    record { inside = S .inside; first = sym (S .ahead ∙ ap (best prio top) z ∙ S .stands) }
+    record { inside = S .inside; first = sym (S .ahead ∙ ap (best prio (at q place)) z) }
 
 before-same : (prio : List ℕ) (a : ℕ) → before prio a a ≡ a
 unfolding before
@@ -186,23 +211,25 @@ heads-set s h (suc n) q k H =
     }
 
 -- one more task: of it and the best of the others, the one that goes first
-pub best-more : (prio q : List ℕ) (h n r : ℕ) (b : Bool) → n < length q → Best prio n q h
-    → before prio (at q h) (at q n) ≡ cond b (at q n) (at q h) → r ≡ cond b n h → Best prio (n + 1) q r
+pub best-more : (prio q : List ℕ) (h n r x y : ℕ) → n < length q → Tasks q → Best prio n q h → x ≡ key prio (at q h)
+    → y ≡ key prio (at q n) → r ≡ cond (ltb x y) n h → Best prio (n + 1) q r
 unfolding best
-best-more prio q h n r b l B e f =
+best-more prio q h n r x y l known B ex ey f =
     record {
-      inside = rw f (inside b);
-      first = place b (at q h) e f ∙ ap (λ (x : ℕ). before prio x (at q n)) (B .first) ∙ more q n l;
+      inside = rw f (inside (ltb x y));
+      first = rw f (place (ltb x y)) ∙ sym first ∙ ap (λ (k : ℕ). before prio k (at q n)) (B .first) ∙ more q n l;
     }
   where
+    first : before prio (at q h) (at q n) ≡ cond (ltb x y) (at q n) (at q h)
+    first = rw (ex, ey) (before-key prio (at q h) (at q n) (known h) (known n))
+
     inside : (b : Bool) → cond b n h ≤ n + 1 - 1
     inside true = omega arith
     inside false = omega (arith, B .inside)
 
-    place : (b : Bool) (x : ℕ) → before prio (at q h) (at q n) ≡ cond b (at q n) (at q h) → r ≡ cond b n h
-        → at q r ≡ before prio (at q h) (at q n)
-    place true x e f = ap (at q) f ∙ sym e
-    place false x e f = ap (at q) f ∙ sym e
+    place : (b : Bool) → at q (cond b n h) ≡ cond b (at q n) (at q h)
+    place true = refl
+    place false = refl
 
     more : (q : List ℕ) (n : ℕ) → n < length q
         → before prio (best prio (at q 0) (drop 1 (take n q))) (at q n) ≡ best prio (at q 0) (drop 1 (take (n + 1) q))

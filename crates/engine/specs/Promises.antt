@@ -1,6 +1,6 @@
 -- What the functions on a run's parts ask and promise. In order: places of the queue's array; a row of ticks to one task;
--- moves of the clock; a request; a run taken apart. Primed names are arrays afterwards. Assumes nothing.
-use Prim.Native.Nat.{ℕ, _+_, _-_, _≤_, _<_}
+-- moves of the clock; a request; the next completion; a run taken apart. Primed names are arrays afterwards. Assumes nothing.
+use Prim.Native.Nat.{ℕ, _+_, _-_, _*_, _≤_, _<_}
 use mathlib.Core.Path.{_≡_}
 use mathlib.Core.Bool.{true, false, cond, not}
 use mathlib.Core.List.{List, [], _∷_}
@@ -16,16 +16,23 @@ use Rattle.rule.specs.View.{view}
 use Rattle.rule.specs.declared.Setup.{Setup}
 use Rattle.rule.specs.declared.Run.{Run}
 use Rattle.laws.specs.Sound.{Sound}
+use Rattle.laws.specs.Next.{DoneNext}
 use Rattle.engine.specs.Parts.{parts, queueAt, takenOut, turnedTo, Kept}
 use Rattle.engine.specs.declared.Cursor.{Cursor}
 use Rattle.engine.specs.declared.Leg.{Leg}
 use Rattle.engine.specs.declared.Asked.{Asked}
+use Rattle.engine.specs.declared.Completion.{Completion}
 
 -- ---- places of the queue's array
 
 -- every entry is the number of a task
 abbrev pub Tasks : List ℕ → Type 0
 Tasks q = (k : ℕ) → at q k < 32
+
+-- "the greatest priority number ..; among equals, .. the smaller task number": of two tasks the one with the greater key
+-- goes first
+abbrev pub key : List ℕ → ℕ → ℕ
+key prio task = at prio task * 32 + (31 - task)
 
 -- Among the first n places, that of the task that goes first; place 0 where n is 0.
 pub record Best (prio : List ℕ) (n : ℕ) (q : List ℕ) (place : ℕ) : Type 0 where
@@ -118,6 +125,18 @@ asked s t k a =
 pub record Asks (s : Setup) (t k a : ℕ) (r : Asked) (q : List ℕ) (before after : State) : Type 0 where
   pub answer : r .refusal ≡ requestRefusal before t k a
   pub left : Reached s (r .cursor) q (asked before t k a) after
+
+-- ---- the next completion
+
+-- The parts are those of a sound state, whatever was given and done.
+pub record Owing (s : Setup) (c : Cursor) (q o : List ℕ) : Type 0 where
+  pub given : List ℕ
+  pub done : List ℕ
+  pub sound : Sound (parts s c q o given done)
+
+-- "the task that would be done next and when, if nothing more were asked"
+abbrev pub SoonestIs : Setup → Cursor → List ℕ → List ℕ → Completion → Type 0
+SoonestIs s c q o r = (g d : List ℕ) → Sound (parts s c q o g d) → DoneNext (parts s c q o g d) (r .task) (r .time)
 
 -- ---- a run taken apart
 

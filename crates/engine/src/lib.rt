@@ -14,7 +14,7 @@ ghost use Rattle.rule.specs.Calls.{moved, drained};
 ghost use Rattle.rule.specs.View.{view, Tidy, Shows};
 ghost use Rattle.laws.specs.Sound.{Sound};
 ghost use Rattle.engine.specs.Parts.{queueAt, parts, Kept, turnedTo, servedTo, restedTo, straightTo};
-ghost use Rattle.engine.specs.Promises.{Tasks, Room, Ready, AtOnce, Leads, Finished, Stepped, Reached, earlyRefusal, Opens, Asks, Apart};
+ghost use Rattle.engine.specs.Promises.{Tasks, Room, Ready, AtOnce, Leads, Finished, Stepped, Reached, earlyRefusal, Opens, Asks, Owing, SoonestIs, Apart};
 
 // The small numbers of a run: what a move of the clock keeps in registers. The head is the place of the task that is served.
 pub struct Cursor {
@@ -379,6 +379,37 @@ pub fn ask(
     }
     let cursor = joined(s, ready, task as u8, amount, queue, owed);
     Asked { refusal: 0, cursor }
+}
+
+// A task, and when it is done.
+pub struct Completion {
+    pub task: u32,
+    pub time: u32,
+}
+
+// The task that is done next, and when, if nothing more is asked. Something is open.
+pub fn soonest(s: Setup, from: Cursor, queue: &[u8; 32], owed: &[u32; 32]) -> Completion
+    requires { ⌜ Kept s from (now queue) ⌝ }
+    requires { ⌜ Owing s from (now queue) (now owed) ⌝ }
+    requires { ⌜ 0 < from .queued ⌝ }
+    requires { ⌜ from .clock + total (now owed) ≤ 4_032_000_000 ⌝ }
+    ensures { λ r. ⌜ SoonestIs s from (now (queue .entry)) (now (owed .entry)) r ⌝ }
+{
+    let mut left = *owed;
+    let mut c = from;
+    loop {
+        let leg = next_leg(s, c, 4_032_000_000, queue, &left);
+        let ready = leg.cursor;
+        if leg.owed == leg.n {
+            return Completion {
+                task: leg.task as u32,
+                time: ready.clock + leg.n,
+            };
+        }
+        let i = leg.task as usize;
+        left[i] = leg.owed - leg.n;
+        c = served(s, ready, leg.n);
+    }
 }
 
 // The cursor of a run whose arrays are lent as they stand.

@@ -1,15 +1,12 @@
 // The queue's array: the loops over its places, and who goes first.
 use rule::Setup;
 ghost use mathlib.Core.Path.{_≡_};
-ghost use mathlib.Core.Bool.{cond};
 ghost use mathlib.Core.List.{_++_};
 ghost use Prim.Native.Nat.{ℕ, _+_, _-_, _≤_, _<_};
 ghost use lib.ListN.{length, drop};
 ghost use lib.Seq.{paste};
-ghost use Rattle.lists.specs.Lists.{at};
-ghost use Rattle.rule.specs.Tick.{before};
 ghost use Rattle.engine.specs.Parts.{ring, takenOut};
-ghost use Rattle.engine.specs.Promises.{Tasks, Best, Heads};
+ghost use Rattle.engine.specs.Promises.{Tasks, key, Best, Heads};
 
 // A stretch of q is put into an array.
 fn put(into: [u8; 32], at: usize, q: [u8; 32], from: usize, count: usize) -> [u8; 32]
@@ -51,20 +48,18 @@ pub fn take_out(queue: &mut [u8; 32], place: usize)
     queue[31] = 0;
 }
 
-// Whether task b goes before task a: the greater priority, among equals the smaller number.
-fn overtakes(priority: &[u8; 32], a: u8, b: u8) -> bool
-    requires { ⌜ (a < 32) × (b < 32) ⌝ }
-    ensures { λ r. ⌜ before (now (priority .entry)) a b ≡ cond r b a ⌝ }
+fn wide(x: u8) -> u32
+    ensures { λ r. ⌜ (r ≡ x) × (r < 256) ⌝ }
 {
-    let p = priority[a as usize];
-    let q = priority[b as usize];
-    if p < q {
-        return true;
-    }
-    if q < p {
-        return false;
-    }
-    b < a
+    x as u32
+}
+
+// The order in which open tasks go first, as one number.
+fn key_of(priority: &[u8; 32], task: u8) -> u32
+    requires { ⌜ task < 32 ⌝ }
+    ensures { λ r. ⌜ r ≡ key (now (priority .entry)) task ⌝ }
+{
+    wide(priority[task as usize]) * 32 + (31 - task as u32)
 }
 
 // The place of the task that goes first among n.
@@ -75,11 +70,11 @@ fn best_place(priority: &[u8; 32], n: usize, queue: &[u8; 32]) -> usize
     ensures { λ r. ⌜ Best (now (priority .entry)) n (now (queue .entry)) r ⌝ }
 {
     let mut place: usize = 0;
-    let mut top = queue[0];
+    let mut top = key_of(priority, queue[0]);
     let mut k: usize = 1;
     while k < n {
-        let other = queue[k];
-        if overtakes(priority, top, other) {
+        let other = key_of(priority, queue[k]);
+        if top < other {
             place = k;
             top = other;
         }
@@ -114,9 +109,6 @@ pub fn head_with(s: Setup, place: usize, n: usize, queue: &[u8; 32]) -> usize
         return place;
     }
     let p = s.priority;
-    if overtakes(&p, queue[place], queue[n]) {
-        n
-    } else {
-        place
-    }
+    let top = key_of(&p, queue[place]);
+    if top < key_of(&p, queue[n]) { n } else { place }
 }

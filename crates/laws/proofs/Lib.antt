@@ -16,3 +16,4 @@ pub mod Tables
 pub mod Sequences
 pub mod Unique
 pub mod Jump
+pub mod NextDone

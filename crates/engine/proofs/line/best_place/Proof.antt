@@ -5,14 +5,15 @@ use mathlib.Core.Path.{_≡_, refl, sym, _∙_}
 use mathlib.Core.Bool.{cond}
 use mathlib.Core.Logic.{⊎-elim}
 use lib.ListN.{length}
-use Rattle.lists.specs.Lists.{at}
+use lib.Dec.{ltb}
+use borrow.Author.Tests.{lt-ltb, le-ltb}
 use Rattle.lists.proofs.Testing.{cond-true, cond-false}
 use Rattle.engine.proofs.Queues.{Scanned, scanned-step, scanned-end}
 use Rattle.engine.proofs.line.best_place.Statement.{statement}
 use Rattle.engine.proofs.line.best_place.Tie as tie
 use Rattle.engine.proofs.line.best_place.Reads as reads
 use Rattle.engine.proofs.line.best_place.Lts as lts
-use Rattle.engine.proofs.line.overtakes.Reads as overtakes-reads
+use Rattle.engine.proofs.line.key_of.Reads as key-of-reads
 
 abbrev Inv-loop : tie.InvT-loop
 Inv-loop priority n queue place₀ top₀ k₀ place top k = Scanned priority n queue place top k
@@ -20,20 +21,20 @@ Inv-loop priority n queue place₀ top₀ k₀ place top k = Scanned priority n 
 abbrev μ-loop : tie.MeasureT-loop
 μ-loop priority n queue place₀ top₀ k₀ place top k = n - k
 
-element-copy-out-top : tie.Need-element-copy-out-top Inv-loop μ-loop
-element-copy-out-top c = search needs
+element-copy-out-key-of : tie.Need-element-copy-out-key-of Inv-loop μ-loop
+element-copy-out-key-of c = search needs
+
+key-of-requires : tie.Need-key-of-requires Inv-loop μ-loop
+key-of-requires c κs = c .before .pre .1 .0 0
 
 loop-holds : tie.Need-loop-holds Inv-loop μ-loop
-loop-holds c = record { inside = omega arith; stands = refl; ahead = refl }
+loop-holds c = record { inside = omega arith; keyed = c .key-of .ensures; ahead = refl }
 
-element-copy-out-other : tie.Need-element-copy-out-other Inv-loop μ-loop
-element-copy-out-other c = search needs
+element-copy-out-key-of-2 : tie.Need-element-copy-out-key-of-2 Inv-loop μ-loop
+element-copy-out-key-of-2 c = search needs
 
-overtakes-requires : tie.Need-overtakes-requires Inv-loop μ-loop
-overtakes-requires c κs =
-    let s = c .before .before .before .before in
-    let i = c .before .before .loop in
-    (rw (i .inv .stands) (s .pre .1 .0 (i .place)), s .pre .1 .0 (i .k))
+key-of-requires-2 : tie.Need-key-of-requires-2 Inv-loop μ-loop
+key-of-requires-2 c κs = c .before .before .before .before .before .pre .1 .0 (c .before .before .loop .k)
 
 add-k : tie.Need-add-k Inv-loop μ-loop
 add-k c = search needs
@@ -43,22 +44,28 @@ loop-less c = search needs
 
 loop-again : tie.Need-loop-again Inv-loop μ-loop
 loop-again c =
-    let s = c .before .before .before .before .before .before in
+    let s = c .before .before .before .before .before .before .before in
     let i = c .before .before .before .before .loop in
     let q = s .args .queue .now in
-    let b = c .before .overtakes .result in
+    let other = c .before .key-of2 .result in
     let l : s .args .n ≤ length q = omega (arith, s .pre .0, s .pre .1 .1) in
-    let on : (p t : ℕ) → p ≡ cond b (i .k) (i .place) → t ≡ cond b (at q (i .k)) (i .top) → Scanned (s .args .priority .now) (s .args .n) q p t (i .k + 1) =
-    λ p t p′ t′. scanned-step (s .args .priority .now) (s .args .n) q (i .place) (i .top) (i .k) b p t
-    (c .before .before .before .loop-test .taken) l (c .before .overtakes .ensures) p′ t′ (i .inv) in
+    let on : (p t : ℕ) → p ≡ cond (ltb (i .top) other) (i .k) (i .place) → t ≡ cond (ltb (i .top) other) other (i .top)
+    → Scanned (s .args .priority .now) (s .args .n) q p t (i .k + 1) =
+    λ p t e f.
+    scanned-step (s .args .priority .now) (s .args .n) q (i .place) (i .top) (i .k) other p t
+    (c .before .before .before .loop-test .taken) l (s .pre .1 .0) (c .before .key-of2 .ensures) e f (i .inv) in
     ⊎-elim
-    (λ x. on _ _ (x .1 ∙ sym (cond-true _ _ (x .0 .taken))) (x .2 ∙ sym (cond-true _ _ (x .0 .taken))))
-    (λ x. on _ _ (x .1 ∙ sym (cond-false _ _ (x .0 .left))) (x .2 ∙ sym (cond-false _ _ (x .0 .left))))
+    (λ x.
+    let b = lt-ltb _ _ (x .0 .taken) in
+    on _ _ (x .1 ∙ sym (cond-true _ _ b)) (x .2 ∙ sym (cond-true _ _ b)))
+    (λ x.
+    let b = le-ltb _ _ (x .0 .left) in
+    on _ _ (x .1 ∙ sym (cond-false _ _ b)) (x .2 ∙ sym (cond-false _ _ b)))
     (c .if1 .came)
 
 returns : tie.Need-returns Inv-loop μ-loop
 returns c =
-    let s = c .before .before .before in
+    let s = c .before .before .before .before in
     let i = c .before .loop in
     scanned-end (s .args .priority .now) (s .args .n) (s .args .queue .now) (i .place) (i .top) (i .k) (c .loop-test .left)
     (omega (arith, s .pre .0, s .pre .1 .1)) (i .inv)
@@ -69,10 +76,11 @@ best-place-spec =
     (tie.spec
     Inv-loop
     μ-loop
-    element-copy-out-top
+    element-copy-out-key-of
+    key-of-requires
     loop-holds
-    element-copy-out-other
-    overtakes-requires
+    element-copy-out-key-of-2
+    key-of-requires-2
     add-k
     loop-less
     loop-again

@@ -1,0 +1,124 @@
+use native.Mathlib.Omega.{arith}
+use Prim.Native.Nat.{ℕ, _+_, _-_, _<_, _≤_}
+use mathlib.Core.Path.{_≡_, ap}
+use mathlib.Core.List.{List}
+use lib.ListN.{set}
+use Rattle.lists.specs.Lists.{at, total}
+use Rattle.laws.specs.Sound.{Sound}
+use Rattle.engine.specs.Parts.{parts}
+use Rattle.engine.proofs.Legs.{ready, leg-known, leg-owes}
+use Rattle.engine.proofs.Waits.{Waits, waits-start, waits-time, waits-end, waits-step, waits-less}
+use Rattle.engine.proofs.soonest.Statement.{statement}
+use Rattle.engine.proofs.soonest.Tie as tie
+use Rattle.engine.proofs.soonest.Reads as reads
+use Rattle.engine.proofs.soonest.Lts as lts
+use Rattle.engine.proofs.next_leg.Reads as next-leg-reads
+use Rattle.engine.proofs.served.Reads as served-reads
+
+abbrev Inv-loop : tie.InvT-loop
+Inv-loop s queue owed left₀ c₀ left c =
+    (g d : List ℕ) → Sound (parts s c₀ queue left₀ g d) → Waits (parts s c₀ queue left₀ g d) s c queue left d
+
+abbrev μ-loop : tie.MeasureT-loop
+μ-loop s queue owed left₀ c₀ left c = total left
+
+-- the parts at the loop's head, with what was given and done when it was entered
+waits : (c : tie.At-loop Inv-loop μ-loop)
+    → let s = c .before .before in
+    let O = s .pre .1 .0 in
+    Waits (parts (s .args .s) (s .args .from) (s .args .queue .now) (s .args .owed .now) (O .given) (O .done)) (s .args .s)
+    (c .loop .c) (s .args .queue .now) (c .loop .left) (O .done)
+waits c = let O = c .before .before .pre .1 .0 in c .loop .inv (O .given) (O .done) (O .sound)
+
+-- what is known once the next row of ticks is
+module _ (c : tie.After-next-leg Inv-loop μ-loop) where
+  abbrev at-loop : tie.At-loop Inv-loop μ-loop
+  at-loop = c .before .before
+
+  known : c .next-leg .result .task < 32
+  known =
+      let W = waits at-loop in
+      leg-known _ _ _ _ _ _ (W .kept) (W .sound) (W .some) _ _ (c .next-leg .ensures)
+
+  time : c .next-leg .result .cursor .clock + c .next-leg .result .n ≤ 4_032_000_000
+  time = waits-time _ _ _ _ _ _ (waits at-loop) _ _ (c .next-leg .ensures)
+
+  more : (c .next-leg .result .owed ≡ c .next-leg .result .n → ⊥)
+      → c .next-leg .result .n < at (at-loop .loop .left) (c .next-leg .result .task)
+  more h = let L = c .next-leg .ensures in omega (arith, L .owes, L .once .owes)
+
+  stored : let l = c .next-leg .result in
+      set (at-loop .loop .left) (l .task) (l .owed - l .n)
+      ≡ set (at-loop .loop .left) (l .task) (at (at-loop .loop .left) (l .task) - l .n)
+  stored =
+      let l = c .next-leg .result in
+      ap (λ (x : ℕ). set (at-loop .loop .left) (l .task) (x - l .n)) (c .next-leg .ensures .owes)
+
+loop-holds : tie.Need-loop-holds Inv-loop μ-loop
+loop-holds c = λ g d S.
+    let s = c .before in
+    waits-start (s .args .s) (s .args .from) (s .args .queue .now) (s .args .owed .now) g d (s .pre .0) (s .pre .1 .1 .0) (s .pre .1 .1 .1) S
+
+next-leg-requires : tie.Need-next-leg-requires Inv-loop μ-loop
+next-leg-requires c κs =
+    let W = waits (c .before) in
+    (ready _ _ _ _ _ _ (W .kept) (W .sound) (W .some), omega arith)
+
+cast-t13 : tie.Need-cast-t13 Inv-loop μ-loop
+cast-t13 c = omega (arith, known (c .before .before .before .before))
+
+add-t14 : tie.Need-add-t14 Inv-loop μ-loop
+add-t14 c = omega (arith, time (c .before .before .before .before .before .before))
+
+returns : tie.Need-returns Inv-loop μ-loop
+returns c = λ g d S.
+    let l = c .before .before .before .before .before .before in
+    waits-end _ _ _ _ _ _ (l .before .before .loop .inv g d S) _ _ (l .next-leg .ensures) (c .before .before .before .if1 .taken)
+
+cast-i : tie.Need-cast-i Inv-loop μ-loop
+cast-i c = omega (arith, known (c .before .before .before .before))
+
+sub-left : tie.Need-sub-left Inv-loop μ-loop
+sub-left c = omega (arith, c .before .before .before .before .before .next-leg .ensures .once .owes)
+
+mul-left : tie.Need-mul-left Inv-loop μ-loop
+mul-left c = omega (arith, known (c .before .before .before .before .before))
+
+array-write-left : tie.Need-array-write-left Inv-loop μ-loop
+array-write-left c = omega (arith, known (c .before .before .before .before .before))
+
+served-requires : tie.Need-served-requires Inv-loop μ-loop
+served-requires c κs =
+    let l = c .before .before .before .before .before in
+    (omega (arith, time l), l .next-leg .ensures .once .sliced)
+
+loop-less : tie.Need-loop-less Inv-loop μ-loop
+loop-less c =
+    let l = c .before .before .before .before .before .before in
+    let m = more l (c .before .before .before .if1 .left) in
+    omega (arith, l .next-leg .ensures .once .some, waits-less _ _ _ _ _ _ (waits (l .before .before)) _ _ (l .next-leg .ensures) _ _ m (c .served .ensures) (stored l))
+
+loop-again : tie.Need-loop-again Inv-loop μ-loop
+loop-again c = λ g d S.
+    let l = c .before .before .before .before .before .before in
+    let m = more l (c .before .before .before .if1 .left) in
+    waits-step _ _ _ _ _ _ (l .before .before .loop .inv g d S) _ _ (l .next-leg .ensures) _ _ m (c .served .ensures) (stored l)
+
+pub soonest-spec : {M : Type 1} → statement M
+soonest-spec =
+    tie.close
+    (tie.spec
+    Inv-loop
+    μ-loop
+    loop-holds
+    next-leg-requires
+    cast-t13
+    add-t14
+    returns
+    cast-i
+    sub-left
+    mul-left
+    array-write-left
+    served-requires
+    loop-less
+    loop-again)
