@@ -1,3 +1,5 @@
 pub mod Testing
 pub mod Counting
 pub mod Totals
+pub mod Zeros
+pub mod Copying

@@ -1,0 +1,6 @@
+pub mod Blocks
+pub mod Judging
+pub mod Setups
+pub mod Accepted
+pub mod Rows
+pub mod Asking
