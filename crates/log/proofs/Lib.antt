@@ -4,3 +4,4 @@ pub mod Setups
 pub mod Accepted
 pub mod Rows
 pub mod Asking
+pub mod Computed
