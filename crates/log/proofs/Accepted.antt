@@ -7,7 +7,8 @@ use mathlib.Core.Path.{_≡_, refl, sym, ap, _∙_}
 use mathlib.Core.Bool.{Bool, true, false, cond, not, _&&_, _||_}
 use mathlib.Core.List.{List}
 use mathlib.Core.Logic.{⊎-elim}
-use lib.ListN.{length, take, drop}
+use lib.ListN.{length, take, drop, length-drop}
+use lib.Seq.{length-take-le}
 use lib.Dec.{eqb}
 use borrow.Author.Tests.{eqb-true, eq-eqb, ne-eqb}
 use Rattle.lists.specs.Lists.{within}
@@ -135,6 +136,12 @@ accepted-most log r =
 
 pub accepted-setup : (log : List ℕ) → Reads log → setupRefusal (setupOf log) ≡ 0
 accepted-setup log r = accepted-sound log r 0 (accepted-sized log r .some) .setup
+
+pub accepted-priority : (log : List ℕ) → Reads log → length (setupOf log .priority) ≡ 32
+unfolding setupIn
+accepted-priority log r =
+    length-take-le 32 (drop 16 (block log 0))
+    (rw (length-drop 16 (block log 0), length-take-le 512 log (omega (arith, accepted-sized log r))) (omega arith))
 
 -- ---- words
 

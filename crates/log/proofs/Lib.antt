@@ -5,3 +5,4 @@ pub mod Accepted
 pub mod Rows
 pub mod Asking
 pub mod Computed
+pub mod Unique

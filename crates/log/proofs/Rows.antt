@@ -1,20 +1,22 @@
--- Laws of the rows of a log that reads. In order: the records of one block; the rows' number; where row i stands.
--- Assumes nothing.
+-- Laws of the rows of a log that reads. In order: the records of one block; the rows' number; where row i stands; the rows
+-- as the code reads them, and as the table takes them; a block's records. Assumes nothing.
 use Prim.Native.Nat.{ℕ, zero, suc, _+_, _*_, _-_, _/_, _%_, _≤_, _<_}
 use native.Mathlib.Omega.{arith}
 use mathlib.Core.Path.{_≡_, refl, sym, ap, _∙_}
-use mathlib.Core.List.{List, [], _++_}
-use lib.ListN.{length, drop, length-append, List·getD-append, List·getD-eq-default}
+use mathlib.Core.List.{List, [], _∷_, _++_}
+use lib.ListN.{length, getD, drop, length-append, List·getD-append, List·getD-eq-default}
 use lib.Seq.{getD-append-add}
 use lib.Dec.{ltb}
-use borrow.Author.Tests.{ltb-true, ltb-false}
+use borrow.Author.Tests.{ltb-true, ltb-false, le-ltb, eq-eqb}
 use Rattle.lists.specs.Lists.{at}
 use Rattle.lists.proofs.Testing.{tested, equal-or}
 use Rattle.words.specs.Words.{word}
 use Rattle.words.proofs.Words.{word-drop}
+use Rattle.rule.specs.Calls.{Call, request}
+use Rattle.rule.specs.Table.{rows, columnRefusal}
 use Rattle.log.specs.Blocks.{blocks, block, count, recordsTo}
 use Rattle.log.specs.Log.{Reads}
-use Rattle.log.specs.Records.{entries, columnFrom, column, askedTimes, rowAt}
+use Rattle.log.specs.Records.{entries, columnFrom, column, askedTimes, rowList, rowAt}
 use Rattle.log.specs.declared.Record.{Record}
 use Rattle.log.proofs.Blocks.{Counted, records-zero, records-more}
 use Rattle.log.proofs.Accepted.{accepted-sized, accepted-counted, accepted-last, accepted-most, lt-of-ne, word-block}
@@ -152,3 +154,49 @@ module _ (log : List ℕ) (r : Reads log) where
         ek ∙ sym (at-column 1 (omega arith) log r i (omega (arith, same-length 1))),
         em ∙ sym (at-column 2 (omega arith) log r i (omega (arith, same-length 2))),
       )
+
+-- ---- the rows as the table takes them
+
+rows-length : (ts ks ms : List ℕ) → length ks ≡ length ts → length ms ≡ length ts → length (rows ts ks ms) ≡ length ts
+unfolding rows
+rows-length [] ks ms p q = refl
+rows-length (t ∷ ts) [] ms p q = absurd (omega arith)
+rows-length (t ∷ ts) (k ∷ ks) [] p q = absurd (omega arith)
+rows-length (t ∷ ts) (k ∷ ks) (m ∷ ms) p q = ap suc (rows-length ts ks ms (omega arith) (omega arith))
+
+rows-at : (ts ks ms : List ℕ) (i : ℕ) (d : Call) → length ks ≡ length ts → length ms ≡ length ts → i < length ts
+    → getD (rows ts ks ms) i d ≡ request (at ts i) (at ks i) (at ms i)
+unfolding rows
+rows-at [] ks ms i d p q h = absurd (omega arith)
+rows-at (t ∷ ts) [] ms i d p q h = absurd (omega arith)
+rows-at (t ∷ ts) (k ∷ ks) [] i d p q h = absurd (omega arith)
+rows-at (t ∷ ts) (k ∷ ks) (m ∷ ms) zero d p q h = refl
+rows-at (t ∷ ts) (k ∷ ks) (m ∷ ms) (suc i) d p q h = rows-at ts ks ms i d (omega arith) (omega arith) (omega arith)
+
+module _ (log : List ℕ) (r : Reads log) where
+  pub row-list-length : length (rowList log) ≡ length (askedTimes log)
+  row-list-length = rows-length (column 0 log) (column 1 log) (column 2 log) (same-length log r 1) (same-length log r 2)
+
+  pub row-list-at : (i : ℕ) (d : Call) → i < length (askedTimes log)
+      → getD (rowList log) i d ≡ request (rowAt log i .time) (rowAt log i .task) (rowAt log i .amount)
+  row-list-at i d h =
+      rows-at (column 0 log) (column 1 log) (column 2 log) i d (same-length log r 1) (same-length log r 2) h
+
+  -- "equally long, at most 1,024 rows": a log's table is refused neither 20 nor 21
+  pub columns-fit : columnRefusal (length (column 0 log)) (length (column 1 log)) (length (column 2 log)) 1_024 ≡ 0
+  unfolding columnRefusal
+  columns-fit =
+      let few = column-most 0 log r in
+      rw (
+        eq-eqb (length (column 1 log)) (length (column 0 log)) (same-length log r 1),
+        eq-eqb (length (column 2 log)) (length (column 0 log)) (same-length log r 2),
+        le-ltb 1_024 (length (column 0 log)) few,
+      )
+
+-- ---- record j of block b is row 41 * (b - 1) + j
+
+pub row-of-block : (w : ℕ) → w < 3 → (log : List ℕ) → Reads log → (b j : ℕ) → 0 < b → j < 41
+    → 41 * (b - 1) + j < length (column w log)
+    → at (column w log) (41 * (b - 1) + j) ≡ word log (512 * b + 8 + 12 * j + 4 * w)
+row-of-block w small log r b j low few h =
+    at-column w small log r (41 * (b - 1) + j) h ∙ ap (word log) (omega arith)

@@ -62,3 +62,21 @@ sum-more s k sum next h g = omega (arith, total-words k s)
 pub sum-check : (s : List ℕ) (k sum : ℕ) → sum ≡ (total (words k s) + 1) % 4_294_967_296 → k ≡ 127 → sum ≡ check s
 unfolding check
 sum-check s k sum h e = rw e at h
+
+-- ---- wrapping sums
+
+-- the words added to a sum one by one, each time modulo 2 ^ 32
+pub wrapped : List ℕ → ℕ → ℕ
+wrapped [] sum = sum
+wrapped (w ∷ ws) sum = wrapped ws ((sum + w) % 4_294_967_296)
+
+pub wrapped-total : (ws : List ℕ) (sum : ℕ) → sum < 4_294_967_296 → wrapped ws sum ≡ (total ws + sum) % 4_294_967_296
+unfolding wrapped total
+wrapped-total [] sum h = omega arith
+wrapped-total (w ∷ ws) sum h =
+    wrapped-total ws ((sum + w) % 4_294_967_296) (omega arith) ∙ omega arith
+
+-- "wrapping u32 addition over little-endian words, tied to a sum modulo 4,294,967,296"
+pub wrapped-check : (block : List ℕ) → wrapped (words 127 block) 1 ≡ check block
+unfolding check
+wrapped-check block = wrapped-total (words 127 block) 1 (omega arith)
