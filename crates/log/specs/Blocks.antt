@@ -14,6 +14,7 @@ use Rattle.rule.specs.declared.Setup.{Setup}
 abbrev pub blocks : List ℕ → ℕ
 blocks log = length log / 512
 
+-- 30, "log length not 512 times 1 to 26"
 unfoldable pub lengthFits : List ℕ → Bool
 lengthFits log = eqb (length log % 512) 0 && within 1 26 (blocks log)
 
@@ -42,10 +43,12 @@ unfoldable pub recordsTo : List ℕ → ℕ → ℕ
 recordsTo log zero = 0
 recordsTo log (suc i) = recordsTo log i + count (block log (suc i))
 
--- "1 to 41 .. Each but the last has 41 records. At most 1,024 records in all.": block i of n has c records, and the blocks
--- before it have `before`
+-- block i of n has c records, and the record blocks before it have `before`
 unfoldable pub countFits : ℕ → ℕ → ℕ → ℕ → Bool
-countFits n i before c = within 1 41 c && (eqb (i + 1) n || eqb c 41) && leb (before + c) 1_024
+countFits n i before c =
+    within 1 41 c  -- "1 to 41"
+    && (eqb (i + 1) n || eqb c 41)  -- "Each but the last has 41 records."
+    && leb (before + c) 1_024  -- "At most 1,024 records in all."
 
 -- "Block 0: .. bytes 48 to 507 zero." "Other blocks: .. records of 12 bytes from byte 8 ..; unused record bytes and bytes
 -- 500 to 507 zero."
@@ -55,7 +58,7 @@ firstUnused i b = cond (eqb i 0) 48 (8 + 12 * count b)
 unfoldable pub unusedZero : ℕ → List ℕ → Bool
 unusedZero i b = zeros (slice (firstUnused i b) 508 b)
 
--- "33: any other breach of the layout"
+-- 33, "any other breach of the layout"
 unfoldable pub layoutFits : List ℕ → ℕ → Bool
 layoutFits log i =
     (eqb i 0 || countFits (blocks log) i (recordsTo log (i - 1)) (count (block log i))) && unusedZero i (block log i)

@@ -58,7 +58,7 @@ refuses n place log = record { found = verdict (judged log); said = verdict (ref
 abbrev long : ℕ → Bool → Case
 long n b = record { found = truth (lengthFits (replicate n 0)); said = truth b }
 
--- ---- "30: log length not 512 times 1 to 26"; "No records: block 0 alone."
+-- ---- 30, "log length not 512 times 1 to 26"; "No records: block 0 alone."
 
 abbrev pub lengths : List Case
 lengths =
@@ -68,7 +68,7 @@ lengths =
     ∷ long 13_824 false
     ∷ []
 
--- ---- "31: a block's check is wrong"; "the sum of the first 127 words of the block plus 1, modulo 4,294,967,296"
+-- ---- 31, "a block's check is wrong"; "the sum of the first 127 words of the block plus 1, modulo 4,294,967,296"
 
 abbrev pub checks : List Case
 checks =
@@ -85,7 +85,7 @@ checks =
     ∷ refuses 31 1 (head ++ take 508 (made (1 ∷ 1 ∷ 16_909_060 ∷ []) 0) ++ 1 ∷ 2 ∷ 3 ∷ 7 ∷ [])
     ∷ []
 
--- ---- "32: word 0 is not the block's place"
+-- ---- 32, "word 0 is not the block's place"
 
 abbrev pub places : List Case
 places =

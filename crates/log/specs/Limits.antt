@@ -11,7 +11,7 @@ use Rattle.log.specs.declared.Found.{Found}
 use Rattle.log.specs.declared.Found.the-variants.{Row, End}
 use Rattle.log.specs.declared.Record.{Record}
 
--- ---- "33: any other breach of the layout"
+-- ---- 33, "any other breach of the layout"
 
 -- block 1 with 41 records of zeros but for a byte
 abbrev full : ℕ → ℕ → List ℕ
@@ -103,7 +103,7 @@ readings =
     ∷ listed 1 long (replicate 40 0 ++ 12 ∷ 15 ∷ []) ∷ listed 2 long (replicate 40 0 ++ 13 ∷ 16 ∷ [])
     ∷ record { found = row (found caseA 1); said = row (Row (record { time = 2; task = 1; amount = 2 })) }
     ∷ record { found = row (found caseA 2); said = row End } ∷ record { found = row (found head 0); said = row End }
-    -- "34: a record block asked for that the log does not have (block 0 included)", after the whole log was judged
+    -- 34, "a record block asked for that the log does not have (block 0 included)", after the whole log was judged
     ∷ asks caseA 0 (refused 34 0) ∷ asks caseA 1 accepted ∷ asks caseA 2 (refused 34 0) ∷ asks caseA 4_294_967_295 (refused 34 0)
     ∷ asks head 0 (refused 34 0) ∷ asks head 1 (refused 34 0) ∷ asks long 2 accepted ∷ asks long 3 (refused 34 0)
     ∷ asks (head ++ wrong) 0 (refused 31 1) ∷ asks (head ++ wrong) 1 (refused 31 1) ∷ asks [] 0 (refused 30 0)

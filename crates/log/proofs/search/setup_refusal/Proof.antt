@@ -1,4 +1,4 @@
--- `log::setup_refusal` meets its contract. Assumes nothing.
+-- `log::search::setup_refusal` meets its contract. Assumes nothing.
 use native.Mathlib.Omega.{arith}
 use borrow.Author.Tests.{eq-eqb, ne-eqb, le-leb, lt-leb}
 use denote.Ref.{now}
@@ -8,8 +8,8 @@ use Rattle.lists.proofs.Testing.{within-holds, within-below, within-above}
 use Rattle.rule.specs.Setups as setups
 use Rattle.log.proofs.Setups.{policy-known}
 use borrow.Author.Needs.{needs}
-use Rattle.log.proofs.setup_refusal.Statement.{statement}
-use Rattle.log.proofs.setup_refusal.Tie as tie
+use Rattle.log.proofs.search.setup_refusal.Statement.{statement}
+use Rattle.log.proofs.search.setup_refusal.Tie as tie
 
 returns : tie.Need-returns
 unfolding setups.setupRefusal setups.sliceFits setups.bytesFit

@@ -1,9 +1,9 @@
--- `log::ranked` meets its contract. Assumes nothing.
+-- `log::search::ranked` meets its contract. Assumes nothing.
 use native.Mathlib.Omega.{arith}
 use borrow.Author.Needs.{needs}
 use borrow.Author.Tests.{eq-eqb, ne-eqb, le-leb, lt-leb}
-use Rattle.log.proofs.ranked.Statement.{statement}
-use Rattle.log.proofs.ranked.Tie as tie
+use Rattle.log.proofs.search.ranked.Statement.{statement}
+use Rattle.log.proofs.search.ranked.Tie as tie
 
 returns : tie.Need-returns
 returns c = simp (eq-eqb _ 1 (c .if1 .taken))

@@ -1,4 +1,4 @@
--- `log::count_right` meets its contract. Assumes nothing.
+-- `log::search::count_right` meets its contract. Assumes nothing.
 use native.Mathlib.Omega.{arith}
 use borrow.Author.Tests.{eq-eqb, ne-eqb, le-leb, lt-leb}
 use denote.Ref.{now}
@@ -6,8 +6,8 @@ use Rattle.log.proofs.Blocks.{count-none, count-above, count-inner, cou
 use mathlib.Core.Path.{_≡_, sym, _∙_}
 use Prim.Native.Nat.{_*_, _-_}
 use borrow.Author.Needs.{needs}
-use Rattle.log.proofs.count_right.Statement.{statement}
-use Rattle.log.proofs.count_right.Tie as tie
+use Rattle.log.proofs.search.count_right.Statement.{statement}
+use Rattle.log.proofs.search.count_right.Tie as tie
 
 returns : tie.Need-returns
 returns c = simp (eq-eqb _ 0 (c .if1 .taken))

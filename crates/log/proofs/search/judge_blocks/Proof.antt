@@ -1,4 +1,4 @@
--- `log::judge_blocks` meets its contract. Outside, what is judged from the first block on is what is judged from this one on; inside, the
+-- `log::search::judge_blocks` meets its contract. Outside, what is judged from the first block on is what is judged from this one on; inside, the
 -- bytes from the first unused one on are as zero as those from this one on. Assumes nothing.
 use Prim.Native.Nat.{ℕ, _≤_, _<_, _+_, _*_, _-_}
 use native.Mathlib.Omega.{arith}
@@ -19,8 +19,8 @@ use Rattle.log.specs.Blocks.{block, count, recordsTo, countFits, firstUn
 use Rattle.log.specs.Log.{refused, blockRefusal, judgedFrom}
 use Rattle.log.proofs.Blocks.{records-zero, records-full}
 use Rattle.log.proofs.Judging.{part-block, length-part, Before, Headed, refusal-check, refusal-place, refusal-count, refusal-byte, refusal-setup, judged-good, judged-refused, judged-end}
-use Rattle.log.proofs.judge_blocks.Statement.{statement}
-use Rattle.log.proofs.judge_blocks.Tie as tie
+use Rattle.log.proofs.search.judge_blocks.Statement.{statement}
+use Rattle.log.proofs.search.judge_blocks.Tie as tie
 
 abbrev Inv-bytes : tie.InvT-bytes
 Inv-bytes log blocks block base stop part at₀ at = zeros (slice at₀ 508 part) ≡ zeros (slice at 508 part)

@@ -1,4 +1,4 @@
--- `log::zero_from` meets its contract: what is left from `at` on is as zero as the whole from `from` on. Assumes nothing.
+-- `log::search::zero_from` meets its contract: what is left from `at` on is as zero as the whole from `from` on. Assumes nothing.
 use native.Mathlib.Omega.{arith}
 use borrow.Author.Needs.{needs}
 use denote.Ref.{now}
@@ -7,8 +7,8 @@ use mathlib.Core.Path.{_≡_, refl, sym, _∙_}
 use lib.ListN.{length, drop}
 use Rattle.lists.specs.Lists.{zeros}
 use Rattle.lists.proofs.Zeros.{zeros-same, zeros-other, zeros-past}
-use Rattle.log.proofs.zero_from.Statement.{statement}
-use Rattle.log.proofs.zero_from.Tie as tie
+use Rattle.log.proofs.search.zero_from.Statement.{statement}
+use Rattle.log.proofs.search.zero_from.Tie as tie
 
 abbrev Inv-loop : tie.InvT-loop
 Inv-loop bytes from at₀ at = zeros (drop from bytes) ≡ zeros (drop at bytes)

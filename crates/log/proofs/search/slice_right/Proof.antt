@@ -1,10 +1,10 @@
--- `log::slice_right` meets its contract. Assumes nothing.
+-- `log::search::slice_right` meets its contract. Assumes nothing.
 use native.Mathlib.Omega.{arith}
 use borrow.Author.Needs.{needs}
 use borrow.Author.Tests.{eq-eqb, ne-eqb, le-leb, lt-leb}
 use Rattle.lists.proofs.Testing.{within-below}
-use Rattle.log.proofs.slice_right.Statement.{statement}
-use Rattle.log.proofs.slice_right.Tie as tie
+use Rattle.log.proofs.search.slice_right.Statement.{statement}
+use Rattle.log.proofs.search.slice_right.Tie as tie
 
 returns : tie.Need-returns
 returns c = simp (eq-eqb _ 1 (c .if1 .taken))
