@@ -5,7 +5,7 @@ use mathlib.Core.Path.{_≡_, refl, sym, _∙_}
 use native.Mathlib.Omega.{arith}
 use lib.ListN.{length, drop}
 use Rattle.lists.specs.Lists.{zeros}
-use Rattle.lists.proofs.Zeros.{zeros-other, zeros-zero, zeros-past}
+use Rattle.lists.proofs.Zeros.{zeros-other, zeros-same, zeros-past}
 use Rattle.setups.proofs.zeros_from.Statement.{statement}
 use Rattle.setups.proofs.zeros_from.Tie as tie
 
@@ -34,7 +34,7 @@ loop-less c = omega arith
 loop-again : tie.Need-loop-again Inv-loop μ-loop
 loop-again c = (
   omega arith,
-  sym (zeros-zero _ _ (c .before .before .loop-test .taken) (c .if1 .left)) ∙ c .before .before .before .loop .inv .1,
+  sym (zeros-same _ _ (c .before .before .loop-test .taken) (c .if1 .left)) ∙ c .before .before .before .loop .inv .1,
 )
 
 returns-2 : tie.Need-returns-2 Inv-loop μ-loop

@@ -1,0 +1,7 @@
+pub mod Blocks
+pub mod Judging
+pub mod Accepted
+pub mod Rows
+pub mod Asking
+pub mod Computed
+pub mod Unique

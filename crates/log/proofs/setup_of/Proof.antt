@@ -1,0 +1,40 @@
+-- `log::setup_of` meets its contract: the words and the stretch of block 0 that its definition names. Assumes nothing.
+use native.Mathlib.Omega.{arith}
+use Prim.Native.Nat.{ℕ}
+use mathlib.Core.Path.{_≡_, _∙_}
+use mathlib.Core.List.{List}
+use borrow.Author.Needs.{needs}
+use Rattle.rule.specs.Setups.{asked}
+use Rattle.log.specs.Blocks.{setupIn}
+use Rattle.log.proofs.Accepted.{accepted-sized}
+use Rattle.log.proofs.setup_of.Statement.{statement}
+use Rattle.log.proofs.setup_of.Tie as tie
+
+asked-equal : {p n s p′ n′ s′ : ℕ} {l : List ℕ} → p ≡ p′ → n ≡ n′ → s ≡ s′ → asked p n s l ≡ asked p′ n′ s′ l
+asked-equal ep en es = cc
+
+part-first-end : tie.Need-part-first-end
+part-first-end c = omega (arith, accepted-sized _ (c .before .pre))
+
+returns : tie.Need-returns
+unfolding setupIn
+returns c =
+    let words = c .before .before in
+    c .setup-of .ensures
+    ∙ asked-equal (words .before .before .word-at .ensures) (words .before .word-at2 .ensures) (words .word-at3 .ensures)
+
+pub setup-of-spec : {M : Type 1} → statement M
+setup-of-spec =
+    tie.close
+    (tie.spec
+    (λ c. search needs)
+    (λ c. search needs)
+    part-first-end
+    (λ c κs. search needs)
+    (λ c κs. search needs)
+    (λ c κs. search needs)
+    (λ c. search needs)
+    (λ c. search needs)
+    (λ c. search needs)
+    (λ c κs. search needs)
+    returns)

@@ -1,0 +1,5 @@
+pub mod Blocks
+pub mod Log
+pub mod Records
+pub mod Cases
+pub mod Limits

@@ -1,0 +1,82 @@
+-- Laws of `word`, `words` and `check`. In order: a word of a part is a word of the whole; a word past the end; the sum of the
+-- words, one word more; a sum kept modulo 2 ^ 32 is the check. Assumes nothing.
+use Prim.Native.Nat.{ℕ, zero, suc, _+_, _*_, _%_, _≤_, _<_}
+use native.Mathlib.Omega.{arith}
+use native.Mathlib.Numerals.{add-one}
+use native.Mathlib.Nat.{add-assoc, suc-add}
+use mathlib.Core.Path.{_≡_, refl, sym, ap, _∙_}
+use mathlib.Core.List.{List, [], _∷_}
+use lib.ListN.{length, take, drop, List·getD-eq-default}
+use lib.Seq.{getD-take, getD-drop}
+use Rattle.lists.specs.Lists.{at, total}
+use Rattle.words.specs.Words.{word, words, check}
+
+-- ---- parts
+
+pub word-drop : (n : ℕ) (s : List ℕ) (i : ℕ) → word (drop n s) i ≡ word s (n + i)
+unfolding word
+word-drop n s i = simp (getD-drop, add-assoc)
+
+pub word-take : (n : ℕ) (s : List ℕ) (i : ℕ) → i + 3 < n → word (take n s) i ≡ word s i
+unfolding word
+word-take n s i h =
+    cc (
+      getD-take n s i 0 (omega arith),
+      getD-take n s (i + 1) 0 (omega arith),
+      getD-take n s (i + 2) 0 (omega arith),
+      getD-take n s (i + 3) 0 (omega arith),
+    )
+
+-- ---- past the end
+
+-- a word of which three bytes, two, one or none stand in the list
+module _ (s : List ℕ) (i : ℕ) where
+  pub word-three : length s ≤ i + 3 → word s i ≡ at s i + 256 * at s (i + 1) + 65_536 * at s (i + 2)
+  unfolding word
+  word-three h = omega (arith, List·getD-eq-default s 0 {n = i + 3} h)
+
+  pub word-two : length s ≤ i + 2 → word s i ≡ at s i + 256 * at s (i + 1)
+  word-two h = omega (arith, word-three (omega arith), List·getD-eq-default s 0 {n = i + 2} h)
+
+  pub word-one : length s ≤ i + 1 → word s i ≡ at s i
+  word-one h = omega (arith, word-two (omega arith), List·getD-eq-default s 0 {n = i + 1} h)
+
+  pub word-none : length s ≤ i → word s i ≡ 0
+  word-none h = omega (arith, word-one (omega arith), List·getD-eq-default s 0 {n = i} h)
+
+-- ---- sums
+
+pub total-words : (k : ℕ) (s : List ℕ) → total (words (k + 1) s) ≡ total (words k s) + word s (4 * k)
+unfolding words total
+total-words zero s = omega arith
+total-words (suc k) s =
+    let e : 4 + 4 * k ≡ 4 * suc k = omega arith in
+    let w : word (drop 4 s) (4 * k) ≡ word s (4 * suc k) = word-drop 4 s (4 * k) ∙ ap (word s) e in
+    rw (suc-add k 1) (omega (arith, total-words k (drop 4 s)))
+
+-- wrapping addition keeps the sum modulo 2 ^ 32
+pub sum-more : (s : List ℕ) (k sum next : ℕ) → sum ≡ (total (words k s) + 1) % 4_294_967_296
+    → next ≡ (sum + word s (4 * k)) % 4_294_967_296 → next ≡ (total (words (k + 1) s) + 1) % 4_294_967_296
+sum-more s k sum next h g = omega (arith, total-words k s)
+
+pub sum-check : (s : List ℕ) (k sum : ℕ) → sum ≡ (total (words k s) + 1) % 4_294_967_296 → k ≡ 127 → sum ≡ check s
+unfolding check
+sum-check s k sum h e = rw e at h
+
+-- ---- wrapping sums
+
+-- the words added to a sum one by one, each time modulo 2 ^ 32
+pub wrapped : List ℕ → ℕ → ℕ
+wrapped [] sum = sum
+wrapped (w ∷ ws) sum = wrapped ws ((sum + w) % 4_294_967_296)
+
+pub wrapped-total : (ws : List ℕ) (sum : ℕ) → sum < 4_294_967_296 → wrapped ws sum ≡ (total ws + sum) % 4_294_967_296
+unfolding wrapped total
+wrapped-total [] sum h = omega arith
+wrapped-total (w ∷ ws) sum h =
+    wrapped-total ws ((sum + w) % 4_294_967_296) (omega arith) ∙ omega arith
+
+-- "wrapping u32 addition over little-endian words, tied to a sum modulo 4,294,967,296"
+pub wrapped-check : (block : List ℕ) → wrapped (words 127 block) 1 ≡ check block
+unfolding check
+wrapped-check block = wrapped-total (words 127 block) 1 (omega arith)
