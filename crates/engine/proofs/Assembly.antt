@@ -1,7 +1,7 @@
 -- A run is taken apart, and put together with its queue from place 0 on. Assumes nothing.
 use Prim.Native.Nat.{ℕ, _≤_, _<_}
 use native.Mathlib.Omega.{arith}
-use mathlib.Core.Path.{_≡_, sym, ap, _∙_, subst}
+use mathlib.Core.Path.{_≡_, refl, sym, ap, _∙_, subst}
 use mathlib.Core.List.{List, _++_}
 use lib.ListN.{take, drop}
 use lib.Dec.{ltb}
@@ -55,6 +55,7 @@ module _ (r : Run) (T : Tidy r) where
               serves = λ p.
                   heads-serves (r .setup) 0 (r .queued) (r .queue) head H p (omega (arith, T .fits, T .whole));
             };
+        queued = refl;
         shown = ap (λ (x : List ℕ). with-queue (r .setup) cursor x (r .owed) (r .given) (r .done)) queue;
       }
     where

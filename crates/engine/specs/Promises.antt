@@ -142,4 +142,5 @@ SoonestIs s c q o r = (g d : List ℕ) → Sound (parts s c q o g d) → DoneNex
 
 pub record Apart (run : Run) (r : Cursor) : Type 0 where
   pub kept : Kept (run .setup) r (run .queue)
+  pub queued : r .queued ≡ run .queued
   pub shown : parts (run .setup) r (run .queue) (run .owed) (run .given) (run .done) ≡ view run

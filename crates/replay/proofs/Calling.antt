@@ -14,6 +14,7 @@ use Rattle.rule.specs.Calls.{lastTime, mostAmount, moved, drained, Call, reques
 use Rattle.rule.specs.View.{view, Shows, Promised}
 use Rattle.rule.specs.declared.Run.{Run}
 use Rattle.laws.specs.Sound.{Sound}
+use Rattle.laws.specs.Drains.{lastClock}
 use Rattle.laws.proofs.Refusals.{refused-stays, accepted-acts}
 use Rattle.engine.specs.Parts.{parts}
 use Rattle.engine.specs.Promises.{Apart, asked}
@@ -28,6 +29,10 @@ apart-sound run c h a = subst Sound (sym (a .shown)) h
 
 pub apart-clock : (run : Run) (c : Cursor) → Apart run c → c .clock ≡ run .clock
 apart-clock run c a = ap (λ (s : State). s .clock) (a .shown)
+
+pub apart-room : (run : Run) (c : Cursor) → Apart run c → run .clock + total (run .owed) ≤ lastClock
+    → c .clock + total (run .owed) ≤ lastClock
+apart-room run c a h = omega (arith, apart-clock run c a)
 
 -- ---- promises from states
 

@@ -3,7 +3,7 @@
 use Prim.Native.Nat.{ℕ, _≤_}
 use mathlib.Core.Path.{_≡_}
 use mathlib.Core.Logic.{_⊎_}
-use Rattle.rule.specs.Readings.{Reading, value, never, refused}
+use Rattle.rule.specs.Readings.{Reading, value, never, refused, Soonest, nothing, done}
 use Rattle.replay.specs.declared.start.SetupAnswer.{SetupAnswer}
 use Rattle.replay.specs.declared.start.SetupAnswer.the-variants as setup
 use Rattle.replay.specs.declared.calls.CallAnswer.{CallAnswer}
@@ -12,6 +12,8 @@ use Rattle.replay.specs.declared.readings.TaskTicks.{TaskTicks}
 use Rattle.replay.specs.declared.readings.TaskTicks.the-variants as ticks
 use Rattle.replay.specs.declared.readings.Completion.{Completion}
 use Rattle.replay.specs.declared.readings.Completion.the-variants as completion
+use Rattle.replay.specs.declared.readings.Next.{Next}
+use Rattle.replay.specs.declared.readings.Next.the-variants as next
 
 -- a setup: its number, 0 where it is accepted
 abbrev pub setupNumber : SetupAnswer → ℕ
@@ -44,3 +46,8 @@ abbrev pub completionTold : Completion → Reading
 completionTold (completion.At t) = value t
 completionTold completion.Never = never
 completionTold completion.NoSuchTask = refused 12
+
+-- the next completion
+abbrev pub nextTold : Next → Soonest
+nextTold (next.Done task time) = done task time
+nextTold next.Nothing = nothing

@@ -6,8 +6,8 @@ ghost use mathlib.Core.Bool.{cond};
 ghost use lib.Dec.{leb, eqb};
 ghost use Rattle.lists.specs.Lists.{at, total};
 ghost use Rattle.rule.specs.View.{view, MadeRun};
-ghost use Rattle.rule.specs.Readings.{value, never, refused, owedOf, givenOf, completedOf};
-ghost use Rattle.replay.specs.Answers.{ticksTold, completionTold};
+ghost use Rattle.rule.specs.Readings.{value, never, refused, owedOf, givenOf, completedOf, nextDone};
+ghost use Rattle.replay.specs.Answers.{ticksTold, completionTold, nextTold};
 
 // Ticks of a task, or refusal 12.
 pub enum TaskTicks {
@@ -20,6 +20,12 @@ pub enum Completion {
     At(u32),
     Never,
     NoSuchTask,
+}
+
+// The task that would be done next and when, if nothing more were asked.
+pub enum Next {
+    Done(u32, u32),
+    Nothing,
 }
 
 pub fn clock(run: Run) -> u32
@@ -97,4 +103,20 @@ pub fn completed(run: Run, task: u32) -> Completion
     }
     let k = task as usize;
     completion_at(column[k])
+}
+
+// The next completion.
+pub fn next_done(run: Run) -> Next
+    requires { ⌜ MadeRun run ⌝ }
+    ensures { λ r. ⌜ nextTold r ≡ nextDone (view run) ⌝ }
+{
+    if run.queued == 0 {
+        return Next::Nothing;
+    }
+    let s = run.setup;
+    let queue = run.queue;
+    let owed = run.owed;
+    let c = engine::cursor_of(run);
+    let next = engine::soonest(s, c, &queue, &owed);
+    Next::Done(next.task, next.time)
 }

@@ -2,3 +2,4 @@ pub mod Taking
 pub mod Running
 pub mod Putting
 pub mod Columns
+pub mod Unique
