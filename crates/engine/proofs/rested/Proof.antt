@@ -1,5 +1,5 @@
-use Rattle.engine.specs.Parts.{restedTo}
 use mathlib.Core.Path.{refl}
+use Rattle.engine.specs.Parts.{restedTo}
 use borrow.Author.Needs.{needs}
 use Rattle.engine.proofs.rested.Statement.{statement}
 use Rattle.engine.proofs.rested.Tie as tie
@@ -9,12 +9,12 @@ use Rattle.engine.proofs.rested.Lts as lts
 add-t3 : tie.Need-add-t3
 add-t3 c = search needs
 
-add-t4 : tie.Need-add-t4
-add-t4 c = search needs
+add-t5 : tie.Need-add-t5
+add-t5 c = search needs
 
 returns : tie.Need-returns
 unfolding restedTo
 returns c = refl
 
 pub rested-spec : {M : Type 1} → statement M
-rested-spec = tie.close (tie.spec add-t3 add-t4 returns)
+rested-spec = tie.close (tie.spec add-t3 add-t5 returns)
