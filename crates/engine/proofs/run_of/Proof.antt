@@ -8,7 +8,7 @@ use Rattle.engine.proofs.run_of.Statement.{statement}
 use Rattle.engine.proofs.run_of.Tie as tie
 use Rattle.engine.proofs.run_of.Reads as reads
 use Rattle.engine.proofs.run_of.Lts as lts
-use Rattle.engine.proofs.straightened.Reads as straightened-reads
+use Rattle.engine.proofs.opening.straightened.Reads as straightened-reads
 
 straightened-requires : tie.Need-straightened-requires
 straightened-requires c κs = search needs
