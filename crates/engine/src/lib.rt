@@ -42,11 +42,13 @@ pub fn walk(
     requires { ⌜ Sound (parts s from (now queue) (now owed) (now given) (now done)) ⌝ }
     requires { ⌜ from .clock ≤ time ⌝ }
     requires { ⌜ time ≤ 4_032_000_000 ⌝ }
-    ensures { λ r. ⌜ Reached s r (now (queue .exit)) (moved (parts s from (now (queue .entry)) (now (owed .entry)) (now (given .entry)) (now (done .entry))) time) (parts s r (now (queue .exit)) (now (owed .exit)) (now (given .exit)) (now (done .exit))) ⌝ }
+    ensures { λ r. ⌜ Reached s r (now (queue .exit))
+        (moved (parts s from (now (queue .entry)) (now (owed .entry)) (now (given .entry)) (now (done .entry))) time)
+        (parts s r (now (queue .exit)) (now (owed .exit)) (now (given .exit)) (now (done .exit))) ⌝ }
 {
     let mut c = from;
     while c.clock < time {
-        // Whole rounds of slices, by division, have their place here: before the step, and with a promise such as the step's.
+        // Whole rounds of slices, by division, have their place here, before the step and with a promise like its own.
         c = steps::step(s, c, time - c.clock, queue, owed, given, done);
     }
     c
@@ -78,7 +80,9 @@ pub fn drain_on(
     requires { ⌜ Kept s c (now queue) ⌝ }
     requires { ⌜ Sound (parts s c (now queue) (now owed) (now given) (now done)) ⌝ }
     requires { ⌜ c .clock + total (now owed) ≤ 4_032_000_000 ⌝ }
-    ensures { λ r. ⌜ Reached s r (now (queue .exit)) (drained (parts s c (now (queue .entry)) (now (owed .entry)) (now (given .entry)) (now (done .entry)))) (parts s r (now (queue .exit)) (now (owed .exit)) (now (given .exit)) (now (done .exit))) ⌝ }
+    ensures { λ r. ⌜ Reached s r (now (queue .exit))
+        (drained (parts s c (now (queue .entry)) (now (owed .entry)) (now (given .entry)) (now (done .entry))))
+        (parts s r (now (queue .exit)) (now (owed .exit)) (now (given .exit)) (now (done .exit))) ⌝ }
 {
     let left = total_of(owed);
     walk(s, c, c.clock + left, queue, owed, given, done)
@@ -104,7 +108,9 @@ pub fn ask(
 ) -> Asked
     requires { ⌜ Kept s c (now queue) ⌝ }
     requires { ⌜ Sound (parts s c (now queue) (now owed) (now given) (now done)) ⌝ }
-    ensures { λ r. ⌜ Asks s time task amount r (now (queue .exit)) (parts s c (now (queue .entry)) (now (owed .entry)) (now (given .entry)) (now (done .entry))) (parts s (r .cursor) (now (queue .exit)) (now (owed .exit)) (now (given .exit)) (now (done .exit))) ⌝ }
+    ensures { λ r. ⌜ Asks s time task amount r (now (queue .exit))
+        (parts s c (now (queue .entry)) (now (owed .entry)) (now (given .entry)) (now (done .entry)))
+        (parts s (r .cursor) (now (queue .exit)) (now (owed .exit)) (now (given .exit)) (now (done .exit))) ⌝ }
 {
     let refusal = opening::early_refusal(s.count, c.clock, time, task, amount);
     if refusal != 0 {
@@ -183,7 +189,8 @@ pub fn run_of(
 ) -> Run
     requires { ⌜ Kept s c (now queue) ⌝ }
     requires { ⌜ Sound (parts s c (now queue) (now owed) (now given) (now done)) ⌝ }
-    ensures { λ r. ⌜ Shows r (parts s c (now (queue .entry)) (now (owed .entry)) (now (given .entry)) (now (done .entry))) ⌝ }
+    ensures { λ r. ⌜ Shows r
+        (parts s c (now (queue .entry)) (now (owed .entry)) (now (given .entry)) (now (done .entry))) ⌝ }
 {
     let mut q = *queue;
     let o = *owed;

@@ -35,7 +35,8 @@ pub fn early_refusal(count: u32, clock: u32, time: u32, task: u32, amount: u32) 
 pub fn straightened(s: Setup, c: Cursor, queue: &mut [u8; 32]) -> Cursor
     requires { ⌜ Kept s c (now queue) ⌝ }
     ensures { λ r. ⌜ r ≡ straightTo s c ⌝ }
-    ensures { λ r. ⌜ now (queue .exit) ≡ queueAt s (c .head) (c .queued) (now (queue .entry)) ++ drop (c .queued) (now (queue .entry)) ⌝ }
+    ensures { λ r. ⌜ now (queue .exit)
+        ≡ queueAt s (c .head) (c .queued) (now (queue .entry)) ++ drop (c .queued) (now (queue .entry)) ⌝ }
 {
     if s.policy == 1 {
         return c;
@@ -64,7 +65,8 @@ pub fn joined(
     requires { ⌜ c .queued < 32 ⌝ }
     requires { ⌜ Tasks (now queue) ⌝ }
     requires { ⌜ task < 32 ⌝ }
-    ensures { λ r. ⌜ Opens s c task amount (now (queue .entry)) (now (owed .entry)) r (now (queue .exit)) (now (owed .exit)) ⌝ }
+    ensures { λ r. ⌜ Opens s c task amount (now (queue .entry)) (now (owed .entry)) r
+        (now (queue .exit)) (now (owed .exit)) ⌝ }
 {
     let i = task as usize;
     owed[i] = amount;

@@ -94,8 +94,10 @@ fn given_to(leg: Leg, owed: &mut [u32; 32], given: &mut [u32; 32])
     requires { ⌜ leg .task < 32 ⌝ }
     requires { ⌜ leg .n ≤ at (now owed) (leg .task) ⌝ }
     requires { ⌜ at (now given) (leg .task) + leg .n < 2 ^ 32 ⌝ }
-    ensures { λ r. ⌜ now (owed .exit) ≡ set (now (owed .entry)) (leg .task) (at (now (owed .entry)) (leg .task) - leg .n) ⌝ }
-    ensures { λ r. ⌜ now (given .exit) ≡ set (now (given .entry)) (leg .task) (at (now (given .entry)) (leg .task) + leg .n) ⌝ }
+    ensures { λ r. ⌜ now (owed .exit)
+        ≡ set (now (owed .entry)) (leg .task) (at (now (owed .entry)) (leg .task) - leg .n) ⌝ }
+    ensures { λ r. ⌜ now (given .exit)
+        ≡ set (now (given .entry)) (leg .task) (at (now (given .entry)) (leg .task) + leg .n) ⌝ }
 {
     let i = leg.task as usize;
     let o = owed[i];
@@ -141,7 +143,8 @@ fn finished(
     requires { ⌜ 0 < c .queued ⌝ }
     requires { ⌜ Tasks (now queue) ⌝ }
     requires { ⌜ task < 32 ⌝ }
-    ensures { λ r. ⌜ Finished s c task n (now (queue .entry)) (now (done .entry)) r (now (queue .exit)) (now (done .exit)) ⌝ }
+    ensures { λ r. ⌜ Finished s c task n (now (queue .entry)) (now (done .entry)) r
+        (now (queue .exit)) (now (done .exit)) ⌝ }
 {
     let i = task as usize;
     let clock = c.clock + n;
@@ -187,7 +190,9 @@ pub fn step(
     requires { ⌜ Sound (parts s c (now queue) (now owed) (now given) (now done)) ⌝ }
     requires { ⌜ 0 < limit ⌝ }
     requires { ⌜ c .clock + limit ≤ 4_032_000_000 ⌝ }
-    ensures { λ r. ⌜ Stepped s r (now (queue .exit)) limit (parts s c (now (queue .entry)) (now (owed .entry)) (now (given .entry)) (now (done .entry))) (parts s r (now (queue .exit)) (now (owed .exit)) (now (given .exit)) (now (done .exit))) ⌝ }
+    ensures { λ r. ⌜ Stepped s r (now (queue .exit)) limit
+        (parts s c (now (queue .entry)) (now (owed .entry)) (now (given .entry)) (now (done .entry)))
+        (parts s r (now (queue .exit)) (now (owed .exit)) (now (given .exit)) (now (done .exit))) ⌝ }
 {
     if c.queued == 0 {
         return rested(c, limit);
