@@ -23,7 +23,7 @@ use Rattle.laws.proofs.Jump.{ticks-idle, ticks-jump}
 use Rattle.engine.specs.Parts.{queueAt, takenOut, parts, Kept, turnedTo, servedTo, restedTo}
 use Rattle.engine.specs.Promises.{Tasks, Ready, Leads, Finished, Stepped}
 use Rattle.engine.specs.declared.Cursor.{Cursor}
-use Rattle.engine.specs.declared.Leg.{Leg}
+use Rattle.engine.specs.declared.steps.Leg.{Leg}
 use Rattle.engine.proofs.Rings.{takenOut-length, drop-takenOut}
 use Rattle.engine.proofs.Queues.{queueAt-times, queueAt-length, heads-inside, heads-serves, queueAt-takenOut}
 use Rattle.engine.proofs.Turns.{turned-kept, parts-turn}

@@ -17,7 +17,7 @@ use Rattle.laws.proofs.NextDone.{next-jumped, next-passed}
 use Rattle.engine.specs.Parts.{parts, Kept, servedTo}
 use Rattle.engine.specs.Promises.{Leads}
 use Rattle.engine.specs.declared.Cursor.{Cursor}
-use Rattle.engine.specs.declared.Leg.{Leg}
+use Rattle.engine.specs.declared.steps.Leg.{Leg}
 use Rattle.engine.proofs.Legs.{leg-clock, leg-owes, leg-turn, leg-chosen, leg-some, parts-some, served-kept, served-ticks}
 
 -- what is done next from here on is done next from start on

@@ -19,7 +19,7 @@ use Rattle.laws.specs.Sound.{Sound}
 use Rattle.laws.specs.Next.{DoneNext}
 use Rattle.engine.specs.Parts.{parts, queueAt, takenOut, turnedTo, Kept}
 use Rattle.engine.specs.declared.Cursor.{Cursor}
-use Rattle.engine.specs.declared.Leg.{Leg}
+use Rattle.engine.specs.declared.steps.Leg.{Leg}
 use Rattle.engine.specs.declared.Asked.{Asked}
 use Rattle.engine.specs.declared.Completion.{Completion}
 

@@ -10,8 +10,8 @@ use Rattle.engine.proofs.ask.Statement.{statement}
 use Rattle.engine.proofs.ask.Tie as tie
 use Rattle.engine.proofs.ask.Reads as reads
 use Rattle.engine.proofs.ask.Lts as lts
-use Rattle.engine.proofs.early_refusal.Reads as early-refusal-reads
-use Rattle.engine.proofs.joined.Reads as joined-reads
+use Rattle.engine.proofs.opening.early_refusal.Reads as early-refusal-reads
+use Rattle.engine.proofs.opening.joined.Reads as joined-reads
 use Rattle.engine.proofs.walk.Reads as walk-reads
 
 -- the place past the refusals by 10 to 13, and what is known there

@@ -12,8 +12,8 @@ use Rattle.engine.proofs.soonest.Statement.{statement}
 use Rattle.engine.proofs.soonest.Tie as tie
 use Rattle.engine.proofs.soonest.Reads as reads
 use Rattle.engine.proofs.soonest.Lts as lts
-use Rattle.engine.proofs.next_leg.Reads as next-leg-reads
-use Rattle.engine.proofs.served.Reads as served-reads
+use Rattle.engine.proofs.steps.next_leg.Reads as next-leg-reads
+use Rattle.engine.proofs.steps.served.Reads as served-reads
 
 abbrev Inv-loop : tie.InvT-loop
 Inv-loop s queue owed left₀ c₀ left c =

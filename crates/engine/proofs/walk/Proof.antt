@@ -6,7 +6,7 @@ use Rattle.engine.proofs.walk.Statement.{statement}
 use Rattle.engine.proofs.walk.Tie as tie
 use Rattle.engine.proofs.walk.Reads as reads
 use Rattle.engine.proofs.walk.Lts as lts
-use Rattle.engine.proofs.step.Reads as step-reads
+use Rattle.engine.proofs.steps.step.Reads as step-reads
 
 abbrev Inv-loop : tie.InvT-loop
 Inv-loop s time queue₀ owed₀ given₀ done₀ c₀ queue owed given done c =

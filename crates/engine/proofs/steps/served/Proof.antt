@@ -1,10 +1,10 @@
 use Rattle.engine.specs.Parts.{servedTo}
 use borrow.Author.Needs.{needs}
-use Rattle.engine.proofs.served.Statement.{statement}
-use Rattle.engine.proofs.served.Tie as tie
-use Rattle.engine.proofs.served.Reads as reads
-use Rattle.engine.proofs.served.Lts as lts
-use Rattle.engine.proofs.used_more.Reads as used-more-reads
+use Rattle.engine.proofs.steps.served.Statement.{statement}
+use Rattle.engine.proofs.steps.served.Tie as tie
+use Rattle.engine.proofs.steps.served.Reads as reads
+use Rattle.engine.proofs.steps.served.Lts as lts
+use Rattle.engine.proofs.steps.used_more.Reads as used-more-reads
 
 add-t4 : tie.Need-add-t4
 add-t4 c = search needs

@@ -4,12 +4,12 @@ use mathlib.Core.Path.{_≡_}
 use lib.ListN.{length-set}
 use Rattle.engine.proofs.Joining.{straight-queued, straight-whole, straight-tasks, straight-heads, joined-opens}
 use borrow.Author.Needs.{needs}
-use Rattle.engine.proofs.joined.Statement.{statement}
-use Rattle.engine.proofs.joined.Tie as tie
-use Rattle.engine.proofs.joined.Reads as reads
-use Rattle.engine.proofs.joined.Lts as lts
+use Rattle.engine.proofs.opening.joined.Statement.{statement}
+use Rattle.engine.proofs.opening.joined.Tie as tie
+use Rattle.engine.proofs.opening.joined.Reads as reads
+use Rattle.engine.proofs.opening.joined.Lts as lts
 use Rattle.engine.proofs.line.head_with.Reads as head-with-reads
-use Rattle.engine.proofs.straightened.Reads as straightened-reads
+use Rattle.engine.proofs.opening.straightened.Reads as straightened-reads
 
 -- the queue is as long as it was
 same : (c : tie.After-straightened) → c .straightened .result .queued ≡ c .before .before .args .c .queued

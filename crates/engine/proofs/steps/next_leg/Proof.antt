@@ -7,12 +7,12 @@ use Rattle.engine.specs.declared.Cursor.{Cursor}
 use Rattle.engine.proofs.Turns.{turned-some, turned-room}
 use Rattle.engine.proofs.Legs.{ready-owes}
 use borrow.Author.Needs.{needs}
-use Rattle.engine.proofs.next_leg.Statement.{statement}
-use Rattle.engine.proofs.next_leg.Tie as tie
-use Rattle.engine.proofs.next_leg.Reads as reads
-use Rattle.engine.proofs.next_leg.Lts as lts
-use Rattle.engine.proofs.at_once.Reads as at-once-reads
-use Rattle.engine.proofs.turned.Reads as turned-reads
+use Rattle.engine.proofs.steps.next_leg.Statement.{statement}
+use Rattle.engine.proofs.steps.next_leg.Tie as tie
+use Rattle.engine.proofs.steps.next_leg.Reads as reads
+use Rattle.engine.proofs.steps.next_leg.Lts as lts
+use Rattle.engine.proofs.steps.at_once.Reads as at-once-reads
+use Rattle.engine.proofs.steps.turned.Reads as turned-reads
 
 -- after the turn the head stands in the queue, and its task is owed ticks
 some : (c : tie.After-turned) → c .turned .result .head < c .before .args .c .queued

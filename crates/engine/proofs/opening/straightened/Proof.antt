@@ -7,10 +7,10 @@ use borrow.Author.Tests.{eq-eqb, ne-eqb}
 use Rattle.engine.specs.Parts.{straightTo}
 use Rattle.engine.proofs.Queues.{queueAt-priority, queueAt-robin}
 use borrow.Author.Needs.{needs}
-use Rattle.engine.proofs.straightened.Statement.{statement}
-use Rattle.engine.proofs.straightened.Tie as tie
-use Rattle.engine.proofs.straightened.Reads as reads
-use Rattle.engine.proofs.straightened.Lts as lts
+use Rattle.engine.proofs.opening.straightened.Statement.{statement}
+use Rattle.engine.proofs.opening.straightened.Tie as tie
+use Rattle.engine.proofs.opening.straightened.Reads as reads
+use Rattle.engine.proofs.opening.straightened.Lts as lts
 use Rattle.engine.proofs.line.straight.Reads as straight-reads
 
 returns : tie.Need-returns

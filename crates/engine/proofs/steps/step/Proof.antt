@@ -7,18 +7,18 @@ use Rattle.laws.specs.Sound.{Sound}
 use Rattle.engine.specs.Parts.{parts, Kept}
 use Rattle.engine.specs.Promises.{Leads}
 use Rattle.engine.specs.declared.Cursor.{Cursor}
-use Rattle.engine.specs.declared.Leg.{Leg}
+use Rattle.engine.specs.declared.steps.Leg.{Leg}
 use Rattle.engine.proofs.Legs.{ready, kept-tasks, rested-stepped, leg-known, leg-owes, leg-gives, leg-clock, leg-kept, leg-some, finished-stepped, served-stepped}
 use borrow.Author.Needs.{needs}
-use Rattle.engine.proofs.step.Statement.{statement}
-use Rattle.engine.proofs.step.Tie as tie
-use Rattle.engine.proofs.step.Reads as reads
-use Rattle.engine.proofs.step.Lts as lts
-use Rattle.engine.proofs.finished.Reads as finished-reads
-use Rattle.engine.proofs.given_to.Reads as given-to-reads
-use Rattle.engine.proofs.next_leg.Reads as next-leg-reads
-use Rattle.engine.proofs.rested.Reads as rested-reads
-use Rattle.engine.proofs.served.Reads as served-reads
+use Rattle.engine.proofs.steps.step.Statement.{statement}
+use Rattle.engine.proofs.steps.step.Tie as tie
+use Rattle.engine.proofs.steps.step.Reads as reads
+use Rattle.engine.proofs.steps.step.Lts as lts
+use Rattle.engine.proofs.steps.finished.Reads as finished-reads
+use Rattle.engine.proofs.steps.given_to.Reads as given-to-reads
+use Rattle.engine.proofs.steps.next_leg.Reads as next-leg-reads
+use Rattle.engine.proofs.steps.rested.Reads as rested-reads
+use Rattle.engine.proofs.steps.served.Reads as served-reads
 
 -- what is known once the next row of ticks is
 module _ (c : tie.After-next-leg) where

@@ -2,10 +2,10 @@ use borrow.Author.Tests.{lt-ltb, le-ltb, le-leb, lt-leb}
 use Rattle.lists.proofs.Testing.{within-below, within-above, within-holds}
 use Rattle.engine.specs.Promises.{earlyRefusal}
 use native.Mathlib.Omega.{arith}
-use Rattle.engine.proofs.early_refusal.Statement.{statement}
-use Rattle.engine.proofs.early_refusal.Tie as tie
-use Rattle.engine.proofs.early_refusal.Reads as reads
-use Rattle.engine.proofs.early_refusal.Lts as lts
+use Rattle.engine.proofs.opening.early_refusal.Statement.{statement}
+use Rattle.engine.proofs.opening.early_refusal.Tie as tie
+use Rattle.engine.proofs.opening.early_refusal.Reads as reads
+use Rattle.engine.proofs.opening.early_refusal.Lts as lts
 
 returns : tie.Need-returns
 unfolding earlyRefusal

@@ -3,10 +3,10 @@ use mathlib.Core.Path.{_∙_, ap}
 use lib.ListN.{length}
 use Rattle.engine.proofs.Rings.{takenOut-length, takenOut-below}
 use borrow.Author.Needs.{needs}
-use Rattle.engine.proofs.finished.Statement.{statement}
-use Rattle.engine.proofs.finished.Tie as tie
-use Rattle.engine.proofs.finished.Reads as reads
-use Rattle.engine.proofs.finished.Lts as lts
+use Rattle.engine.proofs.steps.finished.Statement.{statement}
+use Rattle.engine.proofs.steps.finished.Tie as tie
+use Rattle.engine.proofs.steps.finished.Reads as reads
+use Rattle.engine.proofs.steps.finished.Lts as lts
 use Rattle.engine.proofs.line.head_of.Reads as head-of-reads
 use Rattle.engine.proofs.line.take_out.Reads as take-out-reads
 

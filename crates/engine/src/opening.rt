@@ -1,0 +1,84 @@
+// What a request does besides the move of the clock: its refusals before it, and the task that joins after it.
+use crate::Cursor;
+use crate::line;
+use rule::Setup;
+ghost use mathlib.Core.Path.{_≡_};
+ghost use Prim.Native.Nat.{ℕ, _+_, _<_};
+ghost use mathlib.Core.List.{_++_};
+ghost use lib.ListN.{drop};
+ghost use Rattle.engine.specs.Parts.{queueAt, Kept, straightTo};
+ghost use Rattle.engine.specs.Promises.{Tasks, earlyRefusal, Opens};
+
+// The refusal of a request by 10 to 13, or 0.
+pub fn early_refusal(count: u32, clock: u32, time: u32, task: u32, amount: u32) -> u32
+    ensures { λ r. ⌜ r ≡ earlyRefusal count clock time task amount ⌝ }
+{
+    if 4_000_000_000 < time {
+        return 10;
+    }
+    if time < clock {
+        return 11;
+    }
+    if count <= task {
+        return 12;
+    }
+    if amount < 1 {
+        return 13;
+    }
+    if 1_000_000 < amount {
+        return 13;
+    }
+    0
+}
+
+// The queue from place 0 on.
+pub fn straightened(s: Setup, c: Cursor, queue: &mut [u8; 32]) -> Cursor
+    requires { ⌜ Kept s c (now queue) ⌝ }
+    ensures { λ r. ⌜ r ≡ straightTo s c ⌝ }
+    ensures { λ r. ⌜ now (queue .exit)
+        ≡ queueAt s (c .head) (c .queued) (now (queue .entry)) ++ drop (c .queued) (now (queue .entry)) ⌝ }
+{
+    if s.policy == 1 {
+        return c;
+    }
+    let q = *queue;
+    *queue = line::straight(q, c.head, c.queued);
+    Cursor {
+        clock: c.clock,
+        idle: c.idle,
+        used: c.used,
+        queued: c.queued,
+        head: 0,
+    }
+}
+
+// A task that is not open joins the back of the queue.
+pub fn joined(
+    s: Setup,
+    c: Cursor,
+    task: u8,
+    amount: u32,
+    queue: &mut [u8; 32],
+    owed: &mut [u32; 32],
+) -> Cursor
+    requires { ⌜ Kept s c (now queue) ⌝ }
+    requires { ⌜ c .queued < 32 ⌝ }
+    requires { ⌜ Tasks (now queue) ⌝ }
+    requires { ⌜ task < 32 ⌝ }
+    ensures { λ r. ⌜ Opens s c task amount (now (queue .entry)) (now (owed .entry)) r
+        (now (queue .exit)) (now (owed .exit)) ⌝ }
+{
+    let i = task as usize;
+    owed[i] = amount;
+    let ready = straightened(s, c, queue);
+    let n = ready.queued;
+    queue[n] = task;
+    let head = line::head_with(s, ready.head, n, queue);
+    Cursor {
+        clock: c.clock,
+        idle: c.idle,
+        used: c.used,
+        queued: n + 1,
+        head,
+    }
+}
