@@ -49,6 +49,10 @@ wrote-then {a} {b} {c} {p} {r} {q} {s} {t} x y =
 pub wrote-same : {a b : List ℕ} {p r : ℕ} {s t : List ℕ} → s ≡ t → Wrote a b p s r → Wrote a b p t r
 wrote-same e w = rw (← e) w
 
+pub wrote-same-upto : {most : ℕ} {a b : List ℕ} {p r : ℕ} {s t : List ℕ} → s ≡ t → WroteUpTo most a b p s r
+    → WroteUpTo most a b p t r
+wrote-same-upto e w = rw (← e) w
+
 -- ---- a text byte by byte
 
 pub wrote-more : {a b : List ℕ} {p : ℕ} (s : List ℕ) (i : ℕ) → i < length s → p + i < length b

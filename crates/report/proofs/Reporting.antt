@@ -1,0 +1,140 @@
+-- The text of a table that was run, from what `table` promises. In order: the table of columns that fit is the outcome of its
+-- rows; the result column; the two texts. Then the texts of a log. Assumes nothing.
+use Prim.Native.Nat.{ℕ, _≤_}
+use native.Mathlib.Omega.{arith}
+use mathlib.Core.Path.{_≡_, refl, sym, ap, _∙_, subst}
+use mathlib.Core.Logic.{⊎-elim}
+use mathlib.Core.List.{List, _++_}
+use lib.ListN.{length, take, drop, length-append, length-drop}
+use lib.Seq.{length-take-le, take-at}
+use borrow.Author.Tests.{eq-eqb}
+use Rattle.lists.proofs.Testing.{cond-true}
+use Rattle.rule.specs.Setups.{setupRefusal}
+use Rattle.rule.specs.State.{fresh}
+use Rattle.rule.specs.Table.{Outcome, refused, finished, completions, outcomeFrom, rows, columnRefusal, tableRefusal, tableFrom, table, written}
+use Rattle.rule.specs.declared.Setup.{Setup}
+use Rattle.laws.specs.Rows.{Tabled}
+use Rattle.laws.proofs.Tables.{calls-outcome, completions-length, rows-length, table-tabled}
+use Rattle.table.specs.Answers.{Answers, answerOf}
+use Rattle.table.specs.declared.TableAnswer.{TableAnswer}
+use Rattle.table.specs.declared.TableAnswer.the-variants.{Finished, Refused}
+use Rattle.text.specs.Text.{tableText, refusedLine}
+use Rattle.text.specs.Writes.{Columns}
+use Rattle.report.specs.Report.{tablePrinted}
+
+module _ (p : Setup) (ts ks ms : List ℕ) (z : setupRefusal p ≡ 0)
+    (f : columnRefusal (length ts) (length ks) (length ms) 1_024 ≡ 0) where
+  abbrev o : Outcome
+  o = outcomeFrom (fresh p) (rows ts ks ms)
+
+  -- ---- columns that fit
+
+  no-refusal : tableRefusal p (length ts) (length ks) (length ms) 1_024 ≡ 0
+  unfolding tableRefusal
+  no-refusal = cond-true _ _ (eq-eqb (setupRefusal p) 0 z) ∙ f
+
+  tabled : Tabled p (length ts) (length ks) (length ms) 1_024
+  tabled = table-tabled p (length ts) (length ks) (length ms) 1_024 no-refusal
+
+  table-is : table p ts ks ms 1_024 ≡ o
+  unfolding table tableFrom
+  table-is = cond-true _ _ (eq-eqb _ 0 no-refusal)
+
+  -- ---- the result column
+
+  many : (ds : List ℕ) (end : ℕ) → o ≡ finished ds end → length ds ≡ length ts
+  many ds end e =
+      ⊎-elim
+      (λ w.
+        let same : completions (fresh p) (rows ts ks ms) ≡ ds = first (w .1) in
+        ap length (sym same)
+        ∙ completions-length (fresh p) ts ks ms
+        ∙ rows-length ts ks ms (tabled .tasks-equal) (tabled .amounts-equal))
+      (λ w. absurd (other (w .3)))
+      (calls-outcome (fresh p) (rows ts ks ms))
+    where
+      first : {cs : List ℕ} {n : ℕ} → o ≡ finished cs n → cs ≡ ds
+      first g = cc
+
+      other : {n i : ℕ} → o ≡ refused n i → ⊥
+      other g = let y : _≡_ {A = ℕ} 0 1 = cc in omega arith
+
+  module _ (before after : List ℕ) (room : length before ≡ 1_024) (r : TableAnswer)
+      (A : Answers (table p ts ks ms (length before)) before r after) where
+    is : table p ts ks ms (length before) ≡ o
+    is = ap (table p ts ks ms) room ∙ table-is
+
+    answered : Answers o before r after
+    answered = subst (λ (x : Outcome). Answers x before r after) is A
+
+    -- ---- a refused row
+
+    pub text-refused : (n i : ℕ) → r ≡ Refused n i → refusedLine n i ≡ tablePrinted ts ks ms o
+    unfolding tablePrinted
+    text-refused n i e = go o refl
+      where
+        go : (x : Outcome) → o ≡ x → refusedLine n i ≡ tablePrinted ts ks ms o
+        go (finished ds m) g =
+            let y : answerOf o ≡ answerOf (finished ds m) = ap answerOf g in
+            let w : Refused n i ≡ Finished m = sym e ∙ answered .answer ∙ y in
+            absurd (let q : _≡_ {A = ℕ} 0 1 = cc in omega arith)
+        go (refused m j) g =
+            let y : answerOf o ≡ answerOf (refused m j) = ap answerOf g in
+            let w : Refused n i ≡ Refused m j = sym e ∙ answered .answer ∙ y in
+            let u : n ≡ m = cc in
+            let v : i ≡ j = cc in
+            rw (u, v) (ap (tablePrinted ts ks ms) (sym g))
+
+    -- ---- a finished table
+
+    module _ (end : ℕ) (e : r ≡ Finished end) where
+      pub record Ends : Type 0 where
+        pub dones : List ℕ
+        pub outcome : o ≡ finished dones end
+        pub column : after ≡ dones ++ drop (length dones) before
+
+      ends : Ends
+      unfolding written
+      ends = go o refl
+        where
+          go : (x : Outcome) → o ≡ x → Ends
+          go (finished ds m) g =
+              let y : answerOf o ≡ answerOf (finished ds m) = ap answerOf g in
+              let w : Finished end ≡ Finished m = sym e ∙ answered .answer ∙ y in
+              let u : m ≡ end = cc in
+              record {
+                dones = ds;
+                outcome = g ∙ ap (finished ds) u;
+                column = answered .column ∙ ap (λ (x : Outcome). written x before) g;
+              }
+          go (refused m j) g =
+              let y : answerOf o ≡ answerOf (refused m j) = ap answerOf g in
+              let w : Finished end ≡ Refused m j = sym e ∙ answered .answer ∙ y in
+              absurd (let q : _≡_ {A = ℕ} 0 1 = cc in omega arith)
+
+      as-many : length (ends .dones) ≡ length ts
+      as-many = many (ends .dones) end (ends .outcome)
+
+      pub after-room : length ts ≤ length after
+      after-room =
+          omega (arith, ap length (ends .column), length-append (ends .dones) (drop (length (ends .dones)) before), as-many)
+
+      pub after-part : length ts ≡ length (take (length ts) after)
+      after-part = sym (length-take-le (length ts) after after-room)
+
+      pub after-columns : Columns ks ts ms (take (length ts) after)
+      after-columns =
+          let q = tabled in
+          record {
+            few = omega (arith, q .tasks-equal, q .few);
+            asked-too = sym (q .tasks-equal);
+            amounts-too = q .amounts-equal ∙ sym (q .tasks-equal);
+            done-too = sym after-part ∙ sym (q .tasks-equal);
+          }
+
+      pub text-finished : tableText ks ts ms (take (length ts) after) end ≡ tablePrinted ts ks ms o
+      unfolding tablePrinted
+      text-finished =
+          let front : take (length ts) after ≡ ends .dones =
+          ap (take (length ts)) (ends .column) ∙ take-at (ends .dones) (drop (length (ends .dones)) before) (length ts) as-many in
+          ap (λ (l : List ℕ). tableText ks ts ms l end) front ∙ ap (tablePrinted ts ks ms) (sym (ends .outcome))

@@ -1,0 +1,26 @@
+-- What the functions inside the report promise. Assumes nothing.
+use Prim.Native.Nat.{ℕ, _≤_}
+use mathlib.Core.Path.{_≡_}
+use mathlib.Core.List.{List}
+use lib.ListN.{length, take}
+use Rattle.log.specs.Records.{askedTimes, askedTasks, askedAmounts}
+
+-- Three columns of 1,024 entries.
+pub record Roomy (times tasks amounts : List ℕ) : Type 0 where
+  pub times-room : length times ≡ 1_024
+  pub tasks-room : length tasks ≡ 1_024
+  pub amounts-room : length amounts ≡ 1_024
+
+-- The first i rows of a log stand in them.
+pub record Filled (log : List ℕ) (i : ℕ) (times tasks amounts : List ℕ) : Type 0 where
+  pub inside : i ≤ length (askedTimes log)
+  pub roomy : Roomy times tasks amounts
+  pub times-same : take i times ≡ take i (askedTimes log)
+  pub tasks-same : take i tasks ≡ take i (askedTasks log)
+  pub amounts-same : take i amounts ≡ take i (askedAmounts log)
+
+-- All rows stand there.
+pub record AllFilled (log times tasks amounts : List ℕ) : Type 0 where
+  pub times-same : take (length (askedTimes log)) times ≡ askedTimes log
+  pub tasks-same : take (length (askedTimes log)) tasks ≡ askedTasks log
+  pub amounts-same : take (length (askedTimes log)) amounts ≡ askedAmounts log

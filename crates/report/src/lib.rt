@@ -1,0 +1,91 @@
+// The work of the printing program: from the bytes that were read to the bytes that are written.
+use log::Judged;
+use rule::Setup;
+use table::TableAnswer;
+
+ghost use mathlib.Core.Path.{_≡_};
+ghost use lib.ListN.{length};
+ghost use Rattle.rule.specs.Setups.{setupRefusal};
+ghost use Rattle.rule.specs.State.{fresh};
+ghost use Rattle.rule.specs.Table.{rows, outcomeFrom, columnRefusal};
+ghost use Rattle.log.specs.Log.{Reads};
+ghost use Rattle.log.specs.Records.{askedTimes};
+ghost use Rattle.text.specs.Writes.{WroteUpTo};
+ghost use Rattle.report.specs.Filled.{Roomy, AllFilled};
+ghost use Rattle.report.specs.Report.{tablePrinted, reportText};
+
+// The rows of an accepted log are put into columns.
+fn fill(log: &[u8], times: &mut [u32; 1024], tasks: &mut [u32; 1024], amounts: &mut [u32; 1024]) -> usize
+    requires { ⌜ Reads (now log) ⌝ }
+    requires { ⌜ Roomy (now times) (now tasks) (now amounts) ⌝ }
+    ensures { λ r. ⌜ r ≡ length (askedTimes (now (log .entry))) ⌝ }
+    ensures { λ r. ⌜ AllFilled (now (log .entry)) (now (times .exit)) (now (tasks .exit)) (now (amounts .exit)) ⌝ }
+{
+    let n = log::record_count(log);
+    let mut i: usize = 0;
+    while i < n {
+        let row = log::row_at(log, i);
+        times[i] = row.time;
+        tasks[i] = row.task;
+        amounts[i] = row.amount;
+        i += 1;
+    }
+    n
+}
+
+// The table of rows in columns, run and put.
+fn put_rows(
+    setup: Setup,
+    times: &[u32],
+    tasks: &[u32],
+    amounts: &[u32],
+    out: &mut [u8; 65536],
+) -> usize
+    requires { ⌜ setupRefusal setup ≡ 0 ⌝ }
+    requires { ⌜ columnRefusal (length (now times)) (length (now tasks)) (length (now amounts)) 1_024 ≡ 0 ⌝ }
+    ensures { λ r. ⌜ WroteUpTo 65_536 (now (out .entry)) (now (out .exit)) 0 (tablePrinted (now (times .entry)) (now (tasks .entry)) (now (amounts .entry)) (outcomeFrom (fresh setup) (rows (now (times .entry)) (now (tasks .entry)) (now (amounts .entry))))) r ⌝ }
+{
+    let priority = setup.priority;
+    let mut done = [0u32; 1024];
+    let answer = table::table(
+        setup.policy,
+        setup.count,
+        setup.slice,
+        &priority,
+        times,
+        tasks,
+        amounts,
+        &mut done,
+    );
+    match answer {
+        TableAnswer::Finished(end) => {
+            let n = times.len();
+            text::put_table(tasks, times, amounts, &done[..n], end, out)
+        }
+        TableAnswer::Refused(number, row) => text::put_refused(number, row, out),
+    }
+}
+
+// The table of an accepted log, run and put.
+fn put_log(log: &[u8], out: &mut [u8; 65536]) -> usize
+    requires { ⌜ Reads (now log) ⌝ }
+    ensures { λ r. ⌜ WroteUpTo 65_536 (now (out .entry)) (now (out .exit)) 0 (reportText (now (log .entry))) r ⌝ }
+{
+    let mut times = [0u32; 1024];
+    let mut tasks = [0u32; 1024];
+    let mut amounts = [0u32; 1024];
+    let n = fill(log, &mut times, &mut tasks, &mut amounts);
+    let setup = log::setup_of(log);
+    put_rows(setup, &times[..n], &tasks[..n], &amounts[..n], out)
+}
+
+// Puts all that is printed for a log at the start of out, and answers how much it is. Any bytes of any length are taken.
+pub fn report(log: &[u8], out: &mut [u8; 65536]) -> usize
+    ensures { λ r. ⌜ WroteUpTo 65_536 (now (out .entry)) (now (out .exit)) 0 (reportText (now (log .entry))) r ⌝ }
+{
+    let judged = log::judge(log);
+    match judged {
+        Judged::Accepted => put_log(log, out),
+        Judged::Refused { number, block } => text::put_refused(number, block as u32, out),
+    }
+}
