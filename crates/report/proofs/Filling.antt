@@ -36,20 +36,20 @@ module _ (log : List ℕ) (h : Reads log) where
       record {
         inside = omega arith;
         roomy =
-          record {
-            times-room = length-set times i (row .time) ∙ r .times-room;
-            tasks-room = length-set tasks i (row .task) ∙ r .tasks-room;
-            amounts-room = length-set amounts i (row .amount) ∙ r .amounts-room;
-          };
+            record {
+              times-room = length-set times i (row .time) ∙ r .times-room;
+              tasks-room = length-set tasks i (row .task) ∙ r .tasks-room;
+              amounts-room = length-set amounts i (row .amount) ∙ r .amounts-room;
+            };
         times-same =
-          take-more times (askedTimes log) i (row .time) (omega (arith, r .times-room)) g
-          (ap (λ (x : Record). x .time) e) (f .times-same);
+            take-more times (askedTimes log) i (row .time) (omega (arith, r .times-room)) g
+            (ap (λ (x : Record). x .time) e) (f .times-same);
         tasks-same =
-          take-more tasks (askedTasks log) i (row .task) (omega (arith, r .tasks-room)) (omega (arith, column-same log h 1))
-          (ap (λ (x : Record). x .task) e) (f .tasks-same);
+            take-more tasks (askedTasks log) i (row .task) (omega (arith, r .tasks-room)) (omega (arith, column-same log h 1))
+            (ap (λ (x : Record). x .task) e) (f .tasks-same);
         amounts-same =
-          take-more amounts (askedAmounts log) i (row .amount) (omega (arith, r .amounts-room))
-          (omega (arith, column-same log h 2)) (ap (λ (x : Record). x .amount) e) (f .amounts-same);
+            take-more amounts (askedAmounts log) i (row .amount) (omega (arith, r .amounts-room))
+            (omega (arith, column-same log h 2)) (ap (λ (x : Record). x .amount) e) (f .amounts-same);
       }
 
   pub filled-all : {times tasks amounts : List ℕ} {i : ℕ} → length (askedTimes log) ≤ i → Filled log i times tasks amounts
@@ -57,6 +57,7 @@ module _ (log : List ℕ) (h : Reads log) where
   filled-all {times} {tasks} {amounts} {i} g f =
       let e : i ≡ length (askedTimes log) = omega (arith, f .inside) in
       record {
+        roomy = f .roomy;
         times-same = rw (← e) (f .times-same ∙ take-all i (askedTimes log) g);
         tasks-same = rw (← e) (f .tasks-same ∙ take-all i (askedTasks log) (omega (arith, column-same log h 1)));
         amounts-same = rw (← e) (f .amounts-same ∙ take-all i (askedAmounts log) (omega (arith, column-same log h 2)));

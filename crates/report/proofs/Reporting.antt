@@ -46,10 +46,10 @@ module _ (p : Setup) (ts ks ms : List ℕ) (z : setupRefusal p ≡ 0)
   many ds end e =
       ⊎-elim
       (λ w.
-        let same : completions (fresh p) (rows ts ks ms) ≡ ds = first (w .1) in
-        ap length (sym same)
-        ∙ completions-length (fresh p) ts ks ms
-        ∙ rows-length ts ks ms (tabled .tasks-equal) (tabled .amounts-equal))
+      let same : completions (fresh p) (rows ts ks ms) ≡ ds = first (w .1) in
+      ap length (sym same)
+      ∙ completions-length (fresh p) ts ks ms
+      ∙ rows-length ts ks ms (tabled .tasks-equal) (tabled .amounts-equal))
       (λ w. absurd (other (w .3)))
       (calls-outcome (fresh p) (rows ts ks ms))
     where

@@ -21,6 +21,7 @@ pub record Filled (log : List ℕ) (i : ℕ) (times tasks amounts : List ℕ) : 
 
 -- All rows stand there.
 pub record AllFilled (log times tasks amounts : List ℕ) : Type 0 where
+  pub roomy : Roomy times tasks amounts
   pub times-same : take (length (askedTimes log)) times ≡ askedTimes log
   pub tasks-same : take (length (askedTimes log)) tasks ≡ askedTasks log
   pub amounts-same : take (length (askedTimes log)) amounts ≡ askedAmounts log

@@ -2,7 +2,6 @@
 use log::Judged;
 use rule::Setup;
 use table::TableAnswer;
-
 ghost use mathlib.Core.Path.{_≡_};
 ghost use lib.ListN.{length};
 ghost use Rattle.rule.specs.Setups.{setupRefusal};
@@ -15,7 +14,12 @@ ghost use Rattle.report.specs.Filled.{Roomy, AllFilled};
 ghost use Rattle.report.specs.Report.{tablePrinted, reportText};
 
 // The rows of an accepted log are put into columns.
-fn fill(log: &[u8], times: &mut [u32; 1024], tasks: &mut [u32; 1024], amounts: &mut [u32; 1024]) -> usize
+fn fill(
+    log: &[u8],
+    times: &mut [u32; 1024],
+    tasks: &mut [u32; 1024],
+    amounts: &mut [u32; 1024],
+) -> usize
     requires { ⌜ Reads (now log) ⌝ }
     requires { ⌜ Roomy (now times) (now tasks) (now amounts) ⌝ }
     ensures { λ r. ⌜ r ≡ length (askedTimes (now (log .entry))) ⌝ }

@@ -24,10 +24,11 @@ record-count-requires c κs = c .before .pre .0
 
 loop-holds : tie.Need-loop-holds Inv-loop μ-loop
 loop-holds c =
-    let pre = c .before .before .pre in
-    (c .record-count .ensures,
-    omega (arith, c .record-count .ensures, column-most 0 (now (c .before .before .args .log)) (pre .0)),
-    filled-start _ (pre .0) _ _ _ (pre .1))
+    let pre = c .before .before .pre in (
+      c .record-count .ensures,
+      omega (arith, c .record-count .ensures, column-most 0 (now (c .before .before .args .log)) (pre .0)),
+      filled-start _ (pre .0) _ _ _ (pre .1),
+    )
 
 row-at-requires : tie.Need-row-at-requires Inv-loop μ-loop
 row-at-requires c κs = c .before .before .before .before .pre .0

@@ -1,53 +1,35 @@
+-- `report::report` meets its contract: a log that reads is put as its table, a refused one as its line. Assumes nothing.
+use native.Mathlib.Omega.{arith}
+use mathlib.Core.Path.{_≡_, sym, ap, _∙_}
 use borrow.Author.Needs.{needs}
+use Rattle.log.specs.Log.{told}
+use Rattle.text.proofs.Writing.{wrote-same-upto}
+use Rattle.report.proofs.Logs.{refused-small, refused-text}
 use Rattle.report.proofs.report.Statement.{statement}
 use Rattle.report.proofs.report.Tie as tie
-use Rattle.report.proofs.report.Reads as reads
-use Rattle.report.proofs.report.Lts as lts
-use Rattle.log.proofs.judge.Reads as judge-reads
-use Rattle.report.proofs.put_log.Reads as put-log-reads
-use Rattle.text.proofs.put_refused.Reads as put-refused-reads
 
--- src/lib.rt:86:9
-judge-requires : tie.Need-judge-requires
-judge-requires c κs = search needs
-
--- src/lib.rt:88:42
-enum-told : tie.Need-enum-told
-enum-told c = search needs
-
--- src/lib.rt:88:29
 put-log-requires : tie.Need-put-log-requires
-put-log-requires c κs = ?
+put-log-requires c κs = sym (c .before .before .before .judge .ensures) ∙ ap told (c .before .enum-told .given .1)
 
--- src/lib.rt:89:27
-enum-known-judged : tie.Need-enum-known-judged
-enum-known-judged c = search needs
-
--- src/lib.rt:89:72
 cast-put-refused : tie.Need-cast-put-refused
-cast-put-refused c = ?
+cast-put-refused c =
+    omega (arith, refused-small _ _ _ (sym (c .before .before .before .judge .ensures) ∙ ap told (c .before .judged .given .1)))
 
--- src/lib.rt:89:46
-put-refused-requires : tie.Need-put-refused-requires
-put-refused-requires c κs = search needs
-
--- src/lib.rt:83:1
-returns : tie.Need-returns
-returns c = search needs
-
--- src/lib.rt:83:1
 returns-2 : tie.Need-returns-2
-returns-2 c = ?
+returns-2 c =
+    wrote-same-upto
+    (refused-text _ _ _ (sym (c .before .before .before .before .before .judge .ensures) ∙ ap told (c .before .before .before .judged .given .1)))
+    (c .put-refused .ensures)
 
 pub report-spec : {M : Type 1} → statement M
 report-spec =
     tie.close
     (tie.spec
-    judge-requires
-    enum-told
+    (λ c κs. search needs)
+    (λ c. search needs)
     put-log-requires
-    enum-known-judged
+    (λ c. search needs)
     cast-put-refused
-    put-refused-requires
-    returns
+    (λ c κs. search needs)
+    (λ c. search needs)
     returns-2)
