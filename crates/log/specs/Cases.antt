@@ -64,7 +64,7 @@ abbrev pub lengths : List Case
 lengths =
     refuses 30 0 [] ∷ refuses 30 0 (replicate 511 0) ∷ refuses 30 0 (head ++ 0 ∷ []) ∷ refuses 30 0 (take 1_023 (head ++ body))
     ∷ reads head ∷ reads (head ++ body)
-    ∷ long 0 false ∷ long 511 false ∷ long 512 true ∷ long 513 false ∷ long 13_311 false ∷ long 13_312 true ∷ long 13_313 false
+    ∷ long 0 false ∷ long 511 false ∷ long 512 true ∷ long 513 false ∷ long 768 false ∷ long 13_311 false ∷ long 13_312 true ∷ long 13_313 false
     ∷ long 13_824 false
     ∷ []
 
