@@ -4,7 +4,8 @@ use mathlib.Core.List.{List, map}
 use Rattle.lists.specs.Lists.{total, zeros}
 use Rattle.words.specs.Words.{word, words, check}
 use Rattle.rule.specs.Setups.{sliceFits, bytesFit, setupRefusal}
-use Rattle.log.specs.Blocks.{lengthFits, checkFits, placeFits, setupIn, recordsTo, countFits, unusedZero, layoutFits}
+use Rattle.log.specs.Blocks.{lengthFits, checkFits, placeFits, setupIn, recordsTo, countFits, unusedZero}
+use Rattle.log.specs.Blocks.{layoutFits}
 use Rattle.log.specs.Log.{blockRefusal, judgedFrom, judged}
 use Rattle.log.specs.Records.{entries, columnFrom, column, found, blockAsked, stretch}
 use Rattle.log.specs.Cases.{Case, lengths, checks, places}

@@ -11,7 +11,8 @@ use borrow.Author.Tests.{eq-eqb, ne-eqb}
 use Rattle.lists.specs.Lists.{zeros}
 use Rattle.words.specs.Words.{word, check}
 use Rattle.rule.specs.Setups.{setupRefusal}
-use Rattle.log.specs.Blocks.{blocks, block, checkFits, placeFits, setupIn, count, recordsTo, countFits, firstUnused, unusedZero, layoutFits}
+use Rattle.log.specs.Blocks.{blocks, block, checkFits, placeFits, setupIn, count, recordsTo, countFits}
+use Rattle.log.specs.Blocks.{firstUnused, unusedZero, layoutFits}
 use Rattle.log.specs.Log.{accepted, refused, blockRefusal, judgedFrom}
 
 -- ---- the refusal of block i, by its bytes b

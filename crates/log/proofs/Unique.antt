@@ -1,4 +1,5 @@
--- "Given exactly when": each byte string is accepted, with one setup and one row list, or refused with one number and block.
+-- "Given exactly when": each byte string is accepted, with one setup and one row list, or refused with one number and
+-- block.
 -- In order: refused exactly when; accepted exactly when; places; no two outcomes; the answers of the code.
 -- Assumes nothing.
 use Prim.Native.Nat.{ℕ, zero, suc, _+_, _*_, _-_, _≤_, _<_}

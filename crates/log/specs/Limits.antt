@@ -1,4 +1,5 @@
--- More cases: the layout at both sides of each limit, the order of refusals, and what is read of a log. Assumes nothing.
+-- More cases: the layout at both sides of each limit, the order of refusals, and what is read of a log. Assumes
+-- nothing.
 use Prim.Native.Nat.{ℕ, zero, suc, _+_}
 use mathlib.Core.List.{List, [], _∷_, _++_}
 use lib.ListN.{take, drop, set, replicate}
@@ -6,7 +7,8 @@ use Rattle.rule.specs.Setups.{asked}
 use Rattle.rule.specs.declared.Setup.{Setup}
 use Rattle.log.specs.Log.{Verdict, accepted, refused, judged}
 use Rattle.log.specs.Records.{setupOf, column, found, blockAsked, stretch}
-use Rattle.log.specs.Cases.{Said, verdict, bytes, setup, row, Case, written, little, made, marked, head, body, empty, reads, refuses}
+use Rattle.log.specs.Cases.{Said, verdict, bytes, setup, row, Case, written, little, made, marked, head, body}
+use Rattle.log.specs.Cases.{empty, reads, refuses}
 use Rattle.log.specs.declared.Found.{Found}
 use Rattle.log.specs.declared.Found.the-variants.{Row, End}
 use Rattle.log.specs.declared.Record.{Record}
@@ -46,7 +48,8 @@ records =
     reads (head ++ fullBlocks 1 24 ++ empty 25 40) ∷ refuses 33 25 (head ++ fullBlocks 1 24 ++ empty 25 41)
     ∷ []
 
--- ---- "Log: 30; then block by block 31, 32, 33, and after block 0's layout its setup, 1 to 4, before block 1 is looked at."
+-- ---- "Log: 30; then block by block 31, 32, 33, and after block 0's layout its setup, 1 to 4, before block 1 is
+-- looked at."
 
 abbrev wrong : List ℕ
 wrong = set body 508 0

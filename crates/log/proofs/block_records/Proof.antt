@@ -1,4 +1,5 @@
--- `log::block_records` meets its contract: a block that may be asked for lies inside the log, with at most 41 records. Assumes nothing.
+-- `log::block_records` meets its contract: a block that may be asked for lies inside the log, with at most 41
+-- records. Assumes nothing.
 use native.Mathlib.Omega.{arith}
 use borrow.Author.Tests.{eq-eqb, ne-eqb, le-leb, lt-leb, lt-ltb, le-ltb}
 use denote.Ref.{now}
@@ -39,7 +40,9 @@ returns : tie.Need-returns
 returns c = stretch-given _ _ _ (allowed (c .before .before)) (c .before .word-at .ensures)
 
 returns-2 : tie.Need-returns-2
-returns-2 c = sym (stretch-refused _ _ _ _ (sym (c .before .before .before .block-refusal .ensures) ∙ ap told (c .before .enum-told2 .given .1)))
+returns-2 c =
+    sym
+    (stretch-refused _ _ _ _ (sym (c .before .before .before .block-refusal .ensures) ∙ ap told (c .before .enum-told2 .given .1)))
 
 pub block-records-spec : {M : Type 1} → statement M
 block-records-spec =

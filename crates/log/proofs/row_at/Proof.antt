@@ -32,7 +32,9 @@ add-word-at-2 : tie.Need-add-word-at-2
 add-word-at-2 c = omega (arith, inside (c .before .before))
 
 returns-2 : tie.Need-returns-2
-returns-2 c = row-here _ (c .before .before .before .before .before .before .pre) _ _ _ _ (omega arith) (c .before .before .word-at .ensures) (c .before .word-at2 .ensures) (c .word-at3 .ensures)
+returns-2 c =
+    row-here _ (c .before .before .before .before .before .before .pre) _ _ _ _ (omega arith)
+    (c .before .before .word-at .ensures) (c .before .word-at2 .ensures) (c .word-at3 .ensures)
 
 pub row-at-spec : {M : Type 1} → statement M
 row-at-spec =
