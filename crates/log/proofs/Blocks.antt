@@ -51,7 +51,9 @@ module _ (n i before c : ℕ) where
       record {
         some = r .0;
         few = r .1;
-        full = λ inner. equal-or c 41 (λ g. g) (λ g. absurd (false≢true (rw (ne-eqb (i + 1) n (λ x. omega arith), ne-eqb c 41 g) at (q .1))));
+        full = λ inner.
+            equal-or c 41 (λ g. g)
+            (λ g. absurd (false≢true (rw (ne-eqb (i + 1) n (λ x. omega arith), ne-eqb c 41 g) at (q .1))));
         most = leb-true (before + c) 1024 (p .1);
       }
 

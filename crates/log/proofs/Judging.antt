@@ -68,7 +68,8 @@ module _ {log : List ℕ} {i : ℕ} {b : List ℕ} where
     refusal-byte f z = refusal-headed h ∙ rw (layout-parts p h, f, z)
 
     pub refusal-setup : (eqb i 0 || countFits n i (41 * (i - 1)) (count b)) ≡ true
-        → zeros (slice (firstUnused i b) 508 b) ≡ true → blockRefusal log i ≡ cond (eqb i 0) (setupRefusal (setupIn b)) 0
+        → zeros (slice (firstUnused i b) 508 b) ≡ true
+        → blockRefusal log i ≡ cond (eqb i 0) (setupRefusal (setupIn b)) 0
     refusal-setup f z = refusal-headed h ∙ rw (layout-parts p h, f, z)
 
 -- ---- the blocks that are left

@@ -57,7 +57,8 @@ wrong = set body 508 0
 abbrev pub orders : List Case
 orders =
     refuses 30 0 (wrong ++ 0 ∷ [])
-    ∷ refuses 31 0 (made (1 ∷ 2 ∷ 2 ∷ 1 ∷ []) 9) ∷ refuses 31 0 (marked head 48 1 9) ∷ refuses 31 0 (made (0 ∷ 3 ∷ 2 ∷ 1 ∷ []) 9)
+    ∷ refuses 31 0 (made (1 ∷ 2 ∷ 2 ∷ 1 ∷ []) 9) ∷ refuses 31 0 (marked head 48 1 9)
+    ∷ refuses 31 0 (made (0 ∷ 3 ∷ 2 ∷ 1 ∷ []) 9)
     ∷ refuses 32 0 (marked (made (1 ∷ 2 ∷ 2 ∷ 1 ∷ []) 0) 48 1 8) ∷ refuses 32 1 (head ++ empty 0 42)
     ∷ refuses 32 0 (made (1 ∷ 3 ∷ 2 ∷ 1 ∷ []) 8)
     ∷ refuses 33 0 (marked (made (0 ∷ 3 ∷ 2 ∷ 1 ∷ []) 0) 48 1 8)
@@ -107,9 +108,11 @@ readings =
     ∷ record { found = row (found caseA 1); said = row (Row (record { time = 2; task = 1; amount = 2 })) }
     ∷ record { found = row (found caseA 2); said = row End } ∷ record { found = row (found head 0); said = row End }
     -- 34, "a record block asked for that the log does not have (block 0 included)", after the whole log was judged
-    ∷ asks caseA 0 (refused 34 0) ∷ asks caseA 1 accepted ∷ asks caseA 2 (refused 34 0) ∷ asks caseA 4_294_967_295 (refused 34 0)
+    ∷ asks caseA 0 (refused 34 0) ∷ asks caseA 1 accepted ∷ asks caseA 2 (refused 34 0)
+    ∷ asks caseA 4_294_967_295 (refused 34 0)
     ∷ asks head 0 (refused 34 0) ∷ asks head 1 (refused 34 0) ∷ asks long 2 accepted ∷ asks long 3 (refused 34 0)
     ∷ asks (head ++ wrong) 0 (refused 31 1) ∷ asks (head ++ wrong) 1 (refused 31 1) ∷ asks [] 0 (refused 30 0)
-    ∷ gives caseA 1 (written (0 ∷ 0 ∷ 5 ∷ 2 ∷ 1 ∷ 2 ∷ [])) ∷ gives caseA 0 [] ∷ gives caseA 2 [] ∷ gives (head ++ wrong) 1 []
+    ∷ gives caseA 1 (written (0 ∷ 0 ∷ 5 ∷ 2 ∷ 1 ∷ 2 ∷ [])) ∷ gives caseA 0 [] ∷ gives caseA 2 []
+    ∷ gives (head ++ wrong) 1 []
     ∷ gives long 2 (written (16_909_060 ∷ 15 ∷ 16 ∷ []))
     ∷ []

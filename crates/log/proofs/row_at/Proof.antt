@@ -9,7 +9,12 @@ use borrow.Author.Needs.{needs}
 use Rattle.log.proofs.row_at.Statement.{statement}
 use Rattle.log.proofs.row_at.Tie as tie
 
-inside : (c : tie.Else1) → rowPlace (now (c .before .before .before .args .log)) (c .before .before .before .pre) (c .before .before .before .args .i) + 12
+inside : (c : tie.Else1)
+    → rowPlace
+    (now (c .before .before .before .args .log))
+    (c .before .before .before .pre)
+    (c .before .before .before .args .i)
+    + 12
     ≤ length (now (c .before .before .before .args .log))
 inside c = row-inside _ (c .before .before .before .pre) _ (omega arith)
 

@@ -31,7 +31,9 @@ returns-4 c =
       ne-eqb (a .block) 0 (c .before .before .before .before .if1 .left),
       ← c .before .before .before .word-at .ensures,
     )
-    (sym (count-inner (a .blocks) (a .block) (41 * (a .block - 1)) _ (omega arith) (omega arith) (omega arith) (omega arith)))
+    (sym
+    (count-inner (a .blocks) (a .block) (41 * (a .block - 1)) _
+    (omega arith) (omega arith) (omega arith) (omega arith)))
 
 returns-5 : tie.Need-returns-5
 returns-5 c =

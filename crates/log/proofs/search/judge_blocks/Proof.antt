@@ -32,7 +32,10 @@ abbrev μ-bytes : tie.MeasureT-bytes
 μ-bytes log blocks block base stop part at₀ at = 508 - at
 
 abbrev Inv-search : tie.InvT-search
-Inv-search log blocks block₀ block = (block ≤ blocks) × (judgedFrom log 0 blocks ≡ judgedFrom log block (blocks - block)) × (block < blocks → recordsTo log (block - 1) ≡ 41 * (block - 1))
+Inv-search log blocks block₀ block =
+    (block ≤ blocks)
+    × (judgedFrom log 0 blocks ≡ judgedFrom log block (blocks - block))
+    × (block < blocks → recordsTo log (block - 1) ≡ 41 * (block - 1))
 
 abbrev μ-search : tie.MeasureT-search
 μ-search log blocks block₀ block = blocks - block
@@ -77,7 +80,10 @@ summed : (c : tie.Else2 Inv-bytes μ-bytes Inv-search μ-search)
 summed c = sym (c .before .before .word-at .ensures) ∙ c .if2 .left ∙ c .before .block-sum .ensures
 
 headed : (c : tie.Else3 Inv-bytes μ-bytes Inv-search μ-search)
-    → Headed (logAt (begunOf (c .before .before))) (placeAt (begunOf (c .before .before))) (partAt (begunOf (c .before .before)))
+    → Headed
+    (logAt (begunOf (c .before .before)))
+    (placeAt (begunOf (c .before .before)))
+    (partAt (begunOf (c .before .before)))
 headed c =
     record {
       bytes = part-is (begunOf (c .before .before));
@@ -90,18 +96,27 @@ begunAt c = begunOf (c .before .before .before .before)
 
 counted : (c : tie.Else4 Inv-bytes μ-bytes Inv-search μ-search)
     → (eqb (placeAt (begunAt c)) 0
-    || countFits (blocksAt (begunAt c)) (placeAt (begunAt c)) (41 * (placeAt (begunAt c) - 1)) (count (partAt (begunAt c))))
+    || countFits
+    (blocksAt (begunAt c))
+    (placeAt (begunAt c))
+    (41 * (placeAt (begunAt c) - 1))
+    (count (partAt (begunAt c))))
     ≡ true
 counted c = sym (c .before .count-right .ensures) ∙ not-false _ (c .if4 .left)
 
+abbrev unusedOf : Begun → ℕ
+unusedOf c = firstUnused (placeAt c) (partAt c)
+
 unused : (c : tie.After-first-unused Inv-bytes μ-bytes Inv-search μ-search)
-    → zeros (slice (firstUnused (placeAt (begunAt (c .before))) (partAt (begunAt (c .before)))) 508 (partAt (begunAt (c .before))))
+    → zeros (slice (unusedOf (begunAt (c .before))) 508 (partAt (begunAt (c .before))))
     ≡ zeros (slice (c .first-unused .result) 508 (partAt (begunAt (c .before))))
 unused c = ap (λ (f : ℕ). zeros (slice f 508 (partAt (begunAt (c .before))))) (sym (c .first-unused .ensures))
 
 -- a block whose bytes are right is refused as its setup is
 refused-as : (c : tie.After-block-setup-refusal Inv-bytes μ-bytes Inv-search μ-search)
-    → blockRefusal (logAt (begunAt (c .before .before .before .before))) (placeAt (begunAt (c .before .before .before .before)))
+    → blockRefusal
+    (logAt (begunAt (c .before .before .before .before)))
+    (placeAt (begunAt (c .before .before .before .before)))
     ≡ c .block-setup-refusal .result
 refused-as c =
     let e = c .before .before .before .before in
@@ -121,7 +136,8 @@ bytes-again : tie.Need-bytes-again Inv-bytes μ-bytes Inv-search μ-search
 bytes-again c =
     let e = begunAt (c .before .before .before .before .before) in
     c .before .before .before .bytes .inv
-    ∙ zeros-slice-same 508 (partAt e) (c .before .before .before .bytes .at) (whole e) (c .before .before .bytes-test .taken) (c .if5 .left)
+    ∙ zeros-slice-same 508 (partAt e) (c .before .before .before .bytes .at) (whole e)
+    (c .before .before .bytes-test .taken) (c .if5 .left)
 
 block-setup-refusal-requires :
     tie.Need-block-setup-refusal-requires Inv-bytes μ-bytes Inv-search μ-search
@@ -143,21 +159,24 @@ returns-2 : tie.Need-returns-2 Inv-bytes μ-bytes Inv-search μ-search
 returns-2 c =
     let e = c .before .before .before .before in
     stopped e 31
-    (refusal-check (logAt e) (placeAt e) (partAt e) (part-is e) (λ h. c .if2 .taken (c .before .before .word-at .ensures ∙ h ∙ sym (c .before .block-sum .ensures))))
+    (refusal-check (logAt e) (placeAt e) (partAt e) (part-is e)
+    (λ h. c .if2 .taken (c .before .before .word-at .ensures ∙ h ∙ sym (c .before .block-sum .ensures))))
     (λ x. omega arith)
 
 returns-3 : tie.Need-returns-3 Inv-bytes μ-bytes Inv-search μ-search
 returns-3 c =
     let e = begunOf (c .before .before) in
     stopped e 32
-    (refusal-place (logAt e) (placeAt e) (partAt e) (part-is e) (summed (c .before .before)) (λ h. c .if3 .taken (c .before .word-at2 .ensures ∙ h)))
+    (refusal-place (logAt e) (placeAt e) (partAt e) (part-is e) (summed (c .before .before))
+    (λ h. c .if3 .taken (c .before .word-at2 .ensures ∙ h)))
     (λ x. omega arith)
 
 returns-4 : tie.Need-returns-4 Inv-bytes μ-bytes Inv-search μ-search
 returns-4 c =
     let e = begunOf (c .before .before .before .before) in
     stopped e 33
-    (refusal-count (judged-before e) (headed (c .before .before)) (sym (c .before .count-right .ensures) ∙ not-true _ (c .if4 .taken)))
+    (refusal-count (judged-before e) (headed (c .before .before))
+    (sym (c .before .count-right .ensures) ∙ not-true _ (c .if4 .taken)))
     (λ x. omega arith)
 
 returns-5 : tie.Need-returns-5 Inv-bytes μ-bytes Inv-search μ-search
