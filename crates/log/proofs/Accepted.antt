@@ -1,4 +1,5 @@
--- What a log that reads says of its blocks. In order: its size; each block's refusal is none; the numbers of records; its
+-- What a log that reads says of its blocks. In order: its size; each block's refusal is none; the numbers of records;
+-- its
 -- setup; the words of a block are words of the log. Assumes nothing.
 use Prim.Native.Nat.{ℕ, zero, suc, _+_, _*_, _-_, _/_, _%_, _≤_, _<_}
 use native.Mathlib.Omega.{arith}
@@ -16,7 +17,8 @@ use Rattle.lists.proofs.Testing.{equal-or, and-true, within-true, passed-not}
 use Rattle.words.specs.Words.{word}
 use Rattle.words.proofs.Words.{word-take, word-drop}
 use Rattle.rule.specs.Setups.{setupRefusal}
-use Rattle.log.specs.Blocks.{blocks, lengthFits, block, checkFits, placeFits, setupIn, count, recordsTo, countFits, unusedZero, layoutFits}
+use Rattle.log.specs.Blocks.{blocks, lengthFits, block, checkFits, placeFits, setupIn, count, recordsTo}
+use Rattle.log.specs.Blocks.{countFits, unusedZero, layoutFits}
 use Rattle.log.specs.Log.{Verdict, accepted, refused, blockRefusal, judgedFrom, judged, Reads}
 use Rattle.log.specs.Records.{setupOf}
 use Rattle.log.proofs.Blocks.{Counted, count-fits, records-zero, records-more}
@@ -106,7 +108,12 @@ accepted-full log r (suc i) h =
     let inner = h (omega arith) in
     let c = accepted-counted log r (suc i) (omega arith) (omega arith) in
     let s : suc i - 1 ≡ i = omega arith in
-    omega (arith, rw s at (records-more log (suc i) (omega arith)), accepted-full log r i (λ g. omega arith), c .full inner)
+    omega (
+      arith,
+      rw s at (records-more log (suc i) (omega arith)),
+      accepted-full log r i (λ g. omega arith),
+      c .full inner,
+    )
 
 -- the last block's records stand after full blocks
 pub accepted-last : (log : List ℕ) → Reads log → 2 ≤ blocks log

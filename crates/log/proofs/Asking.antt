@@ -33,7 +33,8 @@ pub asked-had : (log : List ℕ) (i : ℕ) → blockAsked log i ≡ accepted →
 unfolding blockAsked
 asked-had log i e =
     let a = after-accepted (judged log) (cond (leb 1 i && ltb i (blocks log)) accepted (refused 34 0)) e in
-    let t = and-true (leb 1 i) (ltb i (blocks log)) (cond-accepted (leb 1 i && ltb i (blocks log)) accepted 34 0 (a .1) .0) in
+    let n = cond-accepted (leb 1 i && ltb i (blocks log)) accepted 34 0 (a .1) in
+    let t = and-true (leb 1 i) (ltb i (blocks log)) (n .0) in
     let low = leb-true 1 i (t .0) in
     let high = ltb-true i (blocks log) (t .1) in
     let s = accepted-sized log (a .0) in
@@ -56,7 +57,8 @@ pub stretch-given : (log : List ℕ) (i c : ℕ) → blockAsked log i ≡ accept
     → take (512 * i + 8 + 12 * c - (512 * i + 8)) (drop (512 * i + 8) log) ≡ stretch log i
 unfolding stretch
 stretch-given log i c h e =
-    let d : 512 * i + 8 + 12 * c - (512 * i + 8) ≡ 12 * count (block log i) = omega (arith, asked-had log i h .counted) in
+    let n = asked-had log i h .counted in
+    let d : 512 * i + 8 + 12 * c - (512 * i + 8) ≡ 12 * count (block log i) = omega arith in
     rw (d, h)
 
 pub stretch-refused : (log : List ℕ) (i n j : ℕ) → blockAsked log i ≡ refused n j → stretch log i ≡ []

@@ -8,7 +8,8 @@ use mathlib.Core.List.{List}
 use lib.Dec.{eqb, leb}
 use borrow.Author.Tests.{eqb-true, eq-eqb, ne-eqb, le-leb, leb-true}
 use Rattle.lists.specs.Lists.{within}
-use Rattle.lists.proofs.Testing.{tested, equal-or, and-true, or-false, within-true, within-holds, within-below, within-above}
+use Rattle.lists.proofs.Testing.{tested, equal-or, and-true, or-false, within-true, within-holds, within-below}
+use Rattle.lists.proofs.Testing.{within-above}
 use Rattle.log.specs.Blocks.{blocks, block, count, recordsTo, countFits, unusedZero, layoutFits}
 
 -- ---- the number of records
@@ -50,7 +51,9 @@ module _ (n i before c : ℕ) where
       record {
         some = r .0;
         few = r .1;
-        full = λ inner. equal-or c 41 (λ g. g) (λ g. absurd (false≢true (rw (ne-eqb (i + 1) n (λ x. omega arith), ne-eqb c 41 g) at (q .1))));
+        full = λ inner.
+            equal-or c 41 (λ g. g)
+            (λ g. absurd (false≢true (rw (ne-eqb (i + 1) n (λ x. omega arith), ne-eqb c 41 g) at (q .1))));
         most = leb-true (before + c) 1024 (p .1);
       }
 

@@ -1,4 +1,5 @@
--- Laws of the rows of a log that reads. In order: the records of one block; the rows' number; where row i stands; the rows
+-- Laws of the rows of a log that reads. In order: the records of one block; the rows' number; where row i stands; the
+-- rows
 -- as the code reads them, and as the table takes them; a block's records. Assumes nothing.
 use Prim.Native.Nat.{ℕ, zero, suc, _+_, _*_, _-_, _/_, _%_, _≤_, _<_}
 use native.Mathlib.Omega.{arith}
@@ -19,7 +20,8 @@ use Rattle.log.specs.Log.{Reads}
 use Rattle.log.specs.Records.{entries, columnFrom, column, askedTimes, rowList, rowAt}
 use Rattle.log.specs.declared.Record.{Record}
 use Rattle.log.proofs.Blocks.{Counted, records-zero, records-more}
-use Rattle.log.proofs.Accepted.{accepted-sized, accepted-counted, accepted-last, accepted-most, lt-of-ne, word-block}
+use Rattle.log.proofs.Accepted.{accepted-sized, accepted-counted, accepted-last, accepted-most, lt-of-ne}
+use Rattle.log.proofs.Accepted.{word-block}
 
 -- ---- the records of one block
 
@@ -126,7 +128,8 @@ module _ (log : List ℕ) (r : Reads log) where
       → length (column w log) ≡ 41 * (blocks log - 1 - 1) + word log (512 * (blocks log - 1) + 4)
   column-some w h =
       let s : blocks log - 1 - 1 ≡ blocks log - 2 = omega arith in
-      rw s (omega (arith, length-column w log r, accepted-last log r h, word-block log (blocks log - 1) 4 (omega arith)))
+      rw s
+      (omega (arith, length-column w log r, accepted-last log r h, word-block log (blocks log - 1) 4 (omega arith)))
 
   same-length : (w : ℕ) → length (column w log) ≡ length (askedTimes log)
   same-length w = length-column w log r ∙ sym (length-column 0 log r)

@@ -1,4 +1,5 @@
--- "Given exactly when": each byte string is accepted, with one setup and one row list, or refused with one number and block.
+-- "Given exactly when": each byte string is accepted, with one setup and one row list, or refused with one number and
+-- block.
 -- In order: refused exactly when; accepted exactly when; places; no two outcomes; the answers of the code.
 -- Assumes nothing.
 use Prim.Native.Nat.{ℕ, zero, suc, _+_, _*_, _-_, _≤_, _<_}
@@ -64,7 +65,8 @@ refused-from log n i fits (suc left) j h good e =
     (λ k g. ⊎-elim (λ q. rw (← q) (eqb-true (blockRefusal log j) 0 t)) (λ l. good k l) (below k j g))
     (sym (cond-true (judgedFrom log (j + 1) left) (refused (blockRefusal log j) j) t) ∙ e))
     (λ t.
-    let q : refused (blockRefusal log j) j ≡ refused n i = sym (cond-false (judgedFrom log (j + 1) left) (refused (blockRefusal log j) j) t) ∙ e in
+    let f = cond-false (judgedFrom log (j + 1) left) (refused (blockRefusal log j) j) t in
+    let q : refused (blockRefusal log j) j ≡ refused n i = sym f ∙ e in
     let en : blockRefusal log j ≡ n = cc in
     let ei : j ≡ i = cc in
     subst (λ (x : ℕ). Fault log n x) ei
@@ -83,7 +85,8 @@ refused-fault log n i e =
 
 -- ---- accepted exactly when
 
-pub good-reads : (log : List ℕ) → lengthFits log ≡ true → ((i : ℕ) → i < blocks log → blockRefusal log i ≡ 0) → Reads log
+pub good-reads : (log : List ℕ) → lengthFits log ≡ true → ((i : ℕ) → i < blocks log → blockRefusal log i ≡ 0)
+    → Reads log
 unfolding judged
 good-reads log fits good =
     rw fits (good-from log (blocks log) (omega arith) good ∙ judged-end log (blocks log) (blocks log) (omega arith))

@@ -1,5 +1,7 @@
--- Logs worked by hand, as one list of cases: each has what the definitions give beside what is said of it, and a changed
--- number, comparison or order changes a case. In order: blocks from words; lengths; the check; places; layout; the order
+-- Logs worked by hand, as one list of cases: each has what the definitions give beside what is said of it, and a
+-- changed
+-- number, comparison or order changes a case. In order: blocks from words; lengths; the check; places; layout; the
+-- order
 -- of refusals; proofs/Computed.antt computes them all. Assumes nothing.
 use Prim.Native.Nat.{ℕ, _+_, _*_, _-_, _/_, _%_}
 use mathlib.Core.Bool.{Bool, true, false}
@@ -62,10 +64,11 @@ long n b = record { found = truth (lengthFits (replicate n 0)); said = truth b }
 
 abbrev pub lengths : List Case
 lengths =
-    refuses 30 0 [] ∷ refuses 30 0 (replicate 511 0) ∷ refuses 30 0 (head ++ 0 ∷ []) ∷ refuses 30 0 (take 1_023 (head ++ body))
+    refuses 30 0 [] ∷ refuses 30 0 (replicate 511 0) ∷ refuses 30 0 (head ++ 0 ∷ [])
+    ∷ refuses 30 0 (take 1_023 (head ++ body)) ∷ refuses 30 0 (head ++ take 256 body)
     ∷ reads head ∷ reads (head ++ body)
-    ∷ long 0 false ∷ long 511 false ∷ long 512 true ∷ long 513 false ∷ long 13_311 false ∷ long 13_312 true ∷ long 13_313 false
-    ∷ long 13_824 false
+    ∷ long 0 false ∷ long 511 false ∷ long 512 true ∷ long 513 false ∷ long 768 false
+    ∷ long 13_311 false ∷ long 13_312 true ∷ long 13_313 false ∷ long 13_824 false
     ∷ []
 
 -- ---- 31, "a block's check is wrong"; "the sum of the first 127 words of the block plus 1, modulo 4,294,967,296"

@@ -1,4 +1,5 @@
--- More cases: the layout at both sides of each limit, the order of refusals, and what is read of a log. Assumes nothing.
+-- More cases: the layout at both sides of each limit, the order of refusals, and what is read of a log. Assumes
+-- nothing.
 use Prim.Native.Nat.{ℕ, zero, suc, _+_}
 use mathlib.Core.List.{List, [], _∷_, _++_}
 use lib.ListN.{take, drop, set, replicate}
@@ -6,7 +7,8 @@ use Rattle.rule.specs.Setups.{asked}
 use Rattle.rule.specs.declared.Setup.{Setup}
 use Rattle.log.specs.Log.{Verdict, accepted, refused, judged}
 use Rattle.log.specs.Records.{setupOf, column, found, blockAsked, stretch}
-use Rattle.log.specs.Cases.{Said, verdict, bytes, setup, row, Case, written, little, made, marked, head, body, empty, reads, refuses}
+use Rattle.log.specs.Cases.{Said, verdict, bytes, setup, row, Case, written, little, made, marked, head, body}
+use Rattle.log.specs.Cases.{empty, reads, refuses}
 use Rattle.log.specs.declared.Found.{Found}
 use Rattle.log.specs.declared.Found.the-variants.{Row, End}
 use Rattle.log.specs.declared.Record.{Record}
@@ -46,7 +48,8 @@ records =
     reads (head ++ fullBlocks 1 24 ++ empty 25 40) ∷ refuses 33 25 (head ++ fullBlocks 1 24 ++ empty 25 41)
     ∷ []
 
--- ---- "Log: 30; then block by block 31, 32, 33, and after block 0's layout its setup, 1 to 4, before block 1 is looked at."
+-- ---- "Log: 30; then block by block 31, 32, 33, and after block 0's layout its setup, 1 to 4, before block 1 is
+-- looked at."
 
 abbrev wrong : List ℕ
 wrong = set body 508 0
@@ -54,7 +57,8 @@ wrong = set body 508 0
 abbrev pub orders : List Case
 orders =
     refuses 30 0 (wrong ++ 0 ∷ [])
-    ∷ refuses 31 0 (made (1 ∷ 2 ∷ 2 ∷ 1 ∷ []) 9) ∷ refuses 31 0 (marked head 48 1 9) ∷ refuses 31 0 (made (0 ∷ 3 ∷ 2 ∷ 1 ∷ []) 9)
+    ∷ refuses 31 0 (made (1 ∷ 2 ∷ 2 ∷ 1 ∷ []) 9) ∷ refuses 31 0 (marked head 48 1 9)
+    ∷ refuses 31 0 (made (0 ∷ 3 ∷ 2 ∷ 1 ∷ []) 9)
     ∷ refuses 32 0 (marked (made (1 ∷ 2 ∷ 2 ∷ 1 ∷ []) 0) 48 1 8) ∷ refuses 32 1 (head ++ empty 0 42)
     ∷ refuses 32 0 (made (1 ∷ 3 ∷ 2 ∷ 1 ∷ []) 8)
     ∷ refuses 33 0 (marked (made (0 ∷ 3 ∷ 2 ∷ 1 ∷ []) 0) 48 1 8)
@@ -104,9 +108,11 @@ readings =
     ∷ record { found = row (found caseA 1); said = row (Row (record { time = 2; task = 1; amount = 2 })) }
     ∷ record { found = row (found caseA 2); said = row End } ∷ record { found = row (found head 0); said = row End }
     -- 34, "a record block asked for that the log does not have (block 0 included)", after the whole log was judged
-    ∷ asks caseA 0 (refused 34 0) ∷ asks caseA 1 accepted ∷ asks caseA 2 (refused 34 0) ∷ asks caseA 4_294_967_295 (refused 34 0)
+    ∷ asks caseA 0 (refused 34 0) ∷ asks caseA 1 accepted ∷ asks caseA 2 (refused 34 0)
+    ∷ asks caseA 4_294_967_295 (refused 34 0)
     ∷ asks head 0 (refused 34 0) ∷ asks head 1 (refused 34 0) ∷ asks long 2 accepted ∷ asks long 3 (refused 34 0)
     ∷ asks (head ++ wrong) 0 (refused 31 1) ∷ asks (head ++ wrong) 1 (refused 31 1) ∷ asks [] 0 (refused 30 0)
-    ∷ gives caseA 1 (written (0 ∷ 0 ∷ 5 ∷ 2 ∷ 1 ∷ 2 ∷ [])) ∷ gives caseA 0 [] ∷ gives caseA 2 [] ∷ gives (head ++ wrong) 1 []
+    ∷ gives caseA 1 (written (0 ∷ 0 ∷ 5 ∷ 2 ∷ 1 ∷ 2 ∷ [])) ∷ gives caseA 0 [] ∷ gives caseA 2 []
+    ∷ gives (head ++ wrong) 1 []
     ∷ gives long 2 (written (16_909_060 ∷ 15 ∷ 16 ∷ []))
     ∷ []

@@ -1,4 +1,5 @@
-// "The search for faults": the setup in block 0, the number of records of the other blocks, and the bytes that must be zero.
+// "The search for faults": the setup in block 0, the number of records of the other blocks, and the bytes that must
+// be zero.
 ghost use mathlib.Core.Path.{_≡_};
 ghost use mathlib.Core.Bool.{cond, _||_};
 ghost use Prim.Native.Nat.{_*_, _-_, _≤_, _<_};
@@ -59,7 +60,8 @@ fn block_setup_refusal(part: &[u8], block: usize) -> u32
     )
 }
 
-// Blocks outside, bytes inside: the first wrong byte in the first wrong block leaves both loops, with the block's place.
+// Blocks outside, bytes inside: the first wrong byte in the first wrong block leaves both loops, with the block's
+// place.
 pub fn judge_blocks(log: &[u8], blocks: usize) -> Judged
     requires { ⌜ (512 * blocks ≡ length (now log)) × (0 < blocks) × (blocks ≤ 26) ⌝ }
     ensures { λ r. ⌜ told r ≡ judgedFrom (now (log .entry)) 0 blocks ⌝ }

@@ -1,4 +1,5 @@
--- `log::block_records` meets its contract: a block that may be asked for lies inside the log, with at most 41 records. Assumes nothing.
+-- `log::block_records` meets its contract: a block that may be asked for lies inside the log, with at most 41
+-- records. Assumes nothing.
 use native.Mathlib.Omega.{arith}
 use borrow.Author.Tests.{eq-eqb, ne-eqb, le-leb, lt-leb, lt-ltb, le-ltb}
 use denote.Ref.{now}
@@ -11,10 +12,13 @@ use Rattle.log.proofs.block_records.Statement.{statement}
 use Rattle.log.proofs.block_records.Tie as tie
 
 -- the block may be asked for
-allowed : (c : tie.After-enum-told) → blockAsked (now (c .before .before .before .before .args .log)) (c .before .before .before .before .args .block) ≡ accepted
+allowed : (c : tie.After-enum-told)
+    → blockAsked (now (c .before .before .before .before .args .log)) (c .before .before .before .before .args .block)
+    ≡ accepted
 allowed c = sym (c .before .before .block-refusal .ensures) ∙ ap told (c .enum-told .given .1)
 
-had : (c : tie.After-enum-told) → Had (now (c .before .before .before .before .args .log)) (c .before .before .before .before .args .block)
+had : (c : tie.After-enum-told)
+    → Had (now (c .before .before .before .before .args .log)) (c .before .before .before .before .args .block)
 had c = asked-had _ _ (allowed c)
 
 mul-from : tie.Need-mul-from
@@ -39,7 +43,10 @@ returns : tie.Need-returns
 returns c = stretch-given _ _ _ (allowed (c .before .before)) (c .before .word-at .ensures)
 
 returns-2 : tie.Need-returns-2
-returns-2 c = sym (stretch-refused _ _ _ _ (sym (c .before .before .before .block-refusal .ensures) ∙ ap told (c .before .enum-told2 .given .1)))
+returns-2 c =
+    sym
+    (stretch-refused _ _ _ _
+    (sym (c .before .before .before .block-refusal .ensures) ∙ ap told (c .before .enum-told2 .given .1)))
 
 pub block-records-spec : {M : Type 1} → statement M
 block-records-spec =

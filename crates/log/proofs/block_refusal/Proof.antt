@@ -14,18 +14,37 @@ use Rattle.log.proofs.block_refusal.Tie as tie
 
 returns : tie.Need-returns
 unfolding blockAsked
-returns c = let a = c .before .before .before .before .before .args in simp (sym (c .before .before .before .judge .ensures) ∙ ap told (c .before .enum-told .given .1), lt-leb 1 (a .block) (omega arith))
+returns c =
+    let a = c .before .before .before .before .before .args in
+    simp (
+      sym (c .before .before .before .judge .ensures) ∙ ap told (c .before .enum-told .given .1),
+      lt-leb 1 (a .block) (omega arith),
+    )
 
 returns-2 : tie.Need-returns-2
 unfolding blockAsked
-returns-2 c = let a = c .before .before .before .before .before .before .args in simp (sym (c .before .before .before .before .judge .ensures) ∙ ap told (c .before .before .enum-told .given .1), le-leb 1 (a .block) (omega arith), lt-ltb (a .block) (length (now (a .log)) / 512) (omega arith))
+returns-2 c =
+    let a = c .before .before .before .before .before .before .args in
+    simp (
+      sym (c .before .before .before .before .judge .ensures) ∙ ap told (c .before .before .enum-told .given .1),
+      le-leb 1 (a .block) (omega arith),
+      lt-ltb (a .block) (length (now (a .log)) / 512) (omega arith),
+    )
 
 returns-3 : tie.Need-returns-3
 unfolding blockAsked
-returns-3 c = let a = c .before .before .before .before .before .before .args in simp (sym (c .before .before .before .before .judge .ensures) ∙ ap told (c .before .before .enum-told .given .1), le-leb 1 (a .block) (omega arith), le-ltb (a .block) (length (now (a .log)) / 512) (omega arith))
+returns-3 c =
+    let a = c .before .before .before .before .before .before .args in
+    simp (
+      sym (c .before .before .before .before .judge .ensures) ∙ ap told (c .before .before .enum-told .given .1),
+      le-leb 1 (a .block) (omega arith),
+      le-ltb (a .block) (length (now (a .log)) / 512) (omega arith),
+    )
 
 returns-4 : tie.Need-returns-4
-returns-4 c = sym (asked-refused _ _ _ _ (sym (c .before .before .before .judge .ensures) ∙ ap told (c .before .judged .given .1)))
+returns-4 c =
+    sym
+    (asked-refused _ _ _ _ (sym (c .before .before .before .judge .ensures) ∙ ap told (c .before .judged .given .1)))
 
 pub block-refusal-spec : {M : Type 1} → statement M
 block-refusal-spec =

@@ -11,11 +11,14 @@ use Rattle.log.proofs.record_at.Tie as tie
 
 returns : tie.Need-returns
 unfolding found
-returns c = let a = c .before .before .before .args in simp (le-ltb (a .i) (length (askedTimes (now (a .log)))) (omega arith))
+returns c =
+    let a = c .before .before .before .args in simp (le-ltb (a .i) (length (askedTimes (now (a .log)))) (omega arith))
 
 returns-2 : tie.Need-returns-2
 unfolding found
-returns-2 c = let a = c .before .before .before .before .args in simp (lt-ltb (a .i) (length (askedTimes (now (a .log)))) (omega arith)) (cc)
+returns-2 c =
+    let a = c .before .before .before .before .args in
+    simp (lt-ltb (a .i) (length (askedTimes (now (a .log)))) (omega arith)) (cc)
 
 pub record-at-spec : {M : Type 1} → statement M
 record-at-spec = tie.close (tie.spec (λ c κs. search needs) returns (λ c κs. search needs) returns-2)

@@ -9,7 +9,12 @@ use borrow.Author.Needs.{needs}
 use Rattle.log.proofs.row_at.Statement.{statement}
 use Rattle.log.proofs.row_at.Tie as tie
 
-inside : (c : tie.Else1) → rowPlace (now (c .before .before .before .args .log)) (c .before .before .before .pre) (c .before .before .before .args .i) + 12
+inside : (c : tie.Else1)
+    → rowPlace
+    (now (c .before .before .before .args .log))
+    (c .before .before .before .pre)
+    (c .before .before .before .args .i)
+    + 12
     ≤ length (now (c .before .before .before .args .log))
 inside c = row-inside _ (c .before .before .before .pre) _ (omega arith)
 
@@ -32,7 +37,9 @@ add-word-at-2 : tie.Need-add-word-at-2
 add-word-at-2 c = omega (arith, inside (c .before .before))
 
 returns-2 : tie.Need-returns-2
-returns-2 c = row-here _ (c .before .before .before .before .before .before .pre) _ _ _ _ (omega arith) (c .before .before .word-at .ensures) (c .before .word-at2 .ensures) (c .word-at3 .ensures)
+returns-2 c =
+    row-here _ (c .before .before .before .before .before .before .pre) _ _ _ _ (omega arith)
+    (c .before .before .word-at .ensures) (c .before .word-at2 .ensures) (c .word-at3 .ensures)
 
 pub row-at-spec : {M : Type 1} → statement M
 row-at-spec =

@@ -21,7 +21,8 @@ unfolding setupIn
 returns c =
     let words = c .before .before in
     c .setup-of .ensures
-    ∙ asked-equal (words .before .before .word-at .ensures) (words .before .word-at2 .ensures) (words .word-at3 .ensures)
+    ∙ asked-equal (words .before .before .word-at .ensures) (words .before .word-at2 .ensures)
+    (words .word-at3 .ensures)
 
 pub setup-of-spec : {M : Type 1} → statement M
 setup-of-spec =

@@ -13,4 +13,5 @@ returns-2 c = simp (ne-eqb _ 0 (c .before .if1 .left)) (omega arith)
 
 pub first-unused-spec : {M : Type 1} → statement M
 first-unused-spec =
-    tie.close (tie.spec returns (λ c κs. search needs) (λ c. search needs) (λ c. search needs) (λ c. search needs) returns-2)
+    tie.close
+    (tie.spec returns (λ c κs. search needs) (λ c. search needs) (λ c. search needs) (λ c. search needs) returns-2)

@@ -1,4 +1,5 @@
--- `log::search::judge_blocks` meets its contract. Outside, what is judged from the first block on is what is judged from this one on; inside, the
+-- `log::search::judge_blocks` meets its contract. Outside, what is judged from the first block on is what is judged
+-- from this one on; inside, the
 -- bytes from the first unused one on are as zero as those from this one on. Assumes nothing.
 use Prim.Native.Nat.{ℕ, _≤_, _<_, _+_, _*_, _-_}
 use native.Mathlib.Omega.{arith}
@@ -18,7 +19,9 @@ use Rattle.words.specs.Words.{word, check}
 use Rattle.log.specs.Blocks.{block, count, recordsTo, countFits, firstUnused}
 use Rattle.log.specs.Log.{refused, blockRefusal, judgedFrom}
 use Rattle.log.proofs.Blocks.{records-zero, records-full}
-use Rattle.log.proofs.Judging.{part-block, length-part, Before, Headed, refusal-check, refusal-place, refusal-count, refusal-byte, refusal-setup, judged-good, judged-refused, judged-end}
+use Rattle.log.proofs.Judging.{part-block, length-part, Before, Headed, refusal-check, refusal-place}
+use Rattle.log.proofs.Judging.{refusal-count, refusal-byte, refusal-setup, judged-good, judged-refused}
+use Rattle.log.proofs.Judging.{judged-end}
 use Rattle.log.proofs.search.judge_blocks.Statement.{statement}
 use Rattle.log.proofs.search.judge_blocks.Tie as tie
 
@@ -29,7 +32,10 @@ abbrev μ-bytes : tie.MeasureT-bytes
 μ-bytes log blocks block base stop part at₀ at = 508 - at
 
 abbrev Inv-search : tie.InvT-search
-Inv-search log blocks block₀ block = (block ≤ blocks) × (judgedFrom log 0 blocks ≡ judgedFrom log block (blocks - block)) × (block < blocks → recordsTo log (block - 1) ≡ 41 * (block - 1))
+Inv-search log blocks block₀ block =
+    (block ≤ blocks)
+    × (judgedFrom log 0 blocks ≡ judgedFrom log block (blocks - block))
+    × (block < blocks → recordsTo log (block - 1) ≡ 41 * (block - 1))
 
 abbrev μ-search : tie.MeasureT-search
 μ-search log blocks block₀ block = blocks - block
@@ -74,7 +80,10 @@ summed : (c : tie.Else2 Inv-bytes μ-bytes Inv-search μ-search)
 summed c = sym (c .before .before .word-at .ensures) ∙ c .if2 .left ∙ c .before .block-sum .ensures
 
 headed : (c : tie.Else3 Inv-bytes μ-bytes Inv-search μ-search)
-    → Headed (logAt (begunOf (c .before .before))) (placeAt (begunOf (c .before .before))) (partAt (begunOf (c .before .before)))
+    → Headed
+    (logAt (begunOf (c .before .before)))
+    (placeAt (begunOf (c .before .before)))
+    (partAt (begunOf (c .before .before)))
 headed c =
     record {
       bytes = part-is (begunOf (c .before .before));
@@ -87,24 +96,34 @@ begunAt c = begunOf (c .before .before .before .before)
 
 counted : (c : tie.Else4 Inv-bytes μ-bytes Inv-search μ-search)
     → (eqb (placeAt (begunAt c)) 0
-    || countFits (blocksAt (begunAt c)) (placeAt (begunAt c)) (41 * (placeAt (begunAt c) - 1)) (count (partAt (begunAt c))))
+    || countFits
+    (blocksAt (begunAt c))
+    (placeAt (begunAt c))
+    (41 * (placeAt (begunAt c) - 1))
+    (count (partAt (begunAt c))))
     ≡ true
 counted c = sym (c .before .count-right .ensures) ∙ not-false _ (c .if4 .left)
 
+abbrev unusedOf : Begun → ℕ
+unusedOf c = firstUnused (placeAt c) (partAt c)
+
 unused : (c : tie.After-first-unused Inv-bytes μ-bytes Inv-search μ-search)
-    → zeros (slice (firstUnused (placeAt (begunAt (c .before))) (partAt (begunAt (c .before)))) 508 (partAt (begunAt (c .before))))
+    → zeros (slice (unusedOf (begunAt (c .before))) 508 (partAt (begunAt (c .before))))
     ≡ zeros (slice (c .first-unused .result) 508 (partAt (begunAt (c .before))))
 unused c = ap (λ (f : ℕ). zeros (slice f 508 (partAt (begunAt (c .before))))) (sym (c .first-unused .ensures))
 
 -- a block whose bytes are right is refused as its setup is
 refused-as : (c : tie.After-block-setup-refusal Inv-bytes μ-bytes Inv-search μ-search)
-    → blockRefusal (logAt (begunAt (c .before .before .before .before))) (placeAt (begunAt (c .before .before .before .before)))
+    → blockRefusal
+    (logAt (begunAt (c .before .before .before .before)))
+    (placeAt (begunAt (c .before .before .before .before)))
     ≡ c .block-setup-refusal .result
 refused-as c =
     let e = c .before .before .before .before in
     refusal-setup (judged-before (begunAt e)) (headed (e .before .before)) (counted e)
     (unused (c .before .before .before) ∙ c .before .before .bytes .inv
-    ∙ zeros-slice-past 508 (partAt (begunAt e)) (c .before .before .bytes .at) (whole (begunAt e)) (c .before .bytes-test .left))
+    ∙ zeros-slice-past 508 (partAt (begunAt e)) (c .before .before .bytes .at) (whole (begunAt e))
+    (c .before .bytes-test .left))
     ∙ sym (c .block-setup-refusal .ensures)
 
 search-holds : tie.Need-search-holds Inv-bytes μ-bytes Inv-search μ-search
@@ -116,7 +135,9 @@ bytes-holds c = refl
 bytes-again : tie.Need-bytes-again Inv-bytes μ-bytes Inv-search μ-search
 bytes-again c =
     let e = begunAt (c .before .before .before .before .before) in
-    c .before .before .before .bytes .inv ∙ zeros-slice-same 508 (partAt e) (c .before .before .before .bytes .at) (whole e) (c .before .before .bytes-test .taken) (c .if5 .left)
+    c .before .before .before .bytes .inv
+    ∙ zeros-slice-same 508 (partAt e) (c .before .before .before .bytes .at) (whole e)
+    (c .before .before .bytes-test .taken) (c .if5 .left)
 
 block-setup-refusal-requires :
     tie.Need-block-setup-refusal-requires Inv-bytes μ-bytes Inv-search μ-search
@@ -137,17 +158,26 @@ returns c = sym (c .before .search .inv .1 ∙ judged-end _ _ _ (c .if1 .taken))
 returns-2 : tie.Need-returns-2 Inv-bytes μ-bytes Inv-search μ-search
 returns-2 c =
     let e = c .before .before .before .before in
-    stopped e 31 (refusal-check (logAt e) (placeAt e) (partAt e) (part-is e) (λ h. c .if2 .taken (c .before .before .word-at .ensures ∙ h ∙ sym (c .before .block-sum .ensures)))) (λ x. omega arith)
+    stopped e 31
+    (refusal-check (logAt e) (placeAt e) (partAt e) (part-is e)
+    (λ h. c .if2 .taken (c .before .before .word-at .ensures ∙ h ∙ sym (c .before .block-sum .ensures))))
+    (λ x. omega arith)
 
 returns-3 : tie.Need-returns-3 Inv-bytes μ-bytes Inv-search μ-search
 returns-3 c =
     let e = begunOf (c .before .before) in
-    stopped e 32 (refusal-place (logAt e) (placeAt e) (partAt e) (part-is e) (summed (c .before .before)) (λ h. c .if3 .taken (c .before .word-at2 .ensures ∙ h))) (λ x. omega arith)
+    stopped e 32
+    (refusal-place (logAt e) (placeAt e) (partAt e) (part-is e) (summed (c .before .before))
+    (λ h. c .if3 .taken (c .before .word-at2 .ensures ∙ h)))
+    (λ x. omega arith)
 
 returns-4 : tie.Need-returns-4 Inv-bytes μ-bytes Inv-search μ-search
 returns-4 c =
     let e = begunOf (c .before .before .before .before) in
-    stopped e 33 (refusal-count (judged-before e) (headed (c .before .before)) (sym (c .before .count-right .ensures) ∙ not-true _ (c .if4 .taken))) (λ x. omega arith)
+    stopped e 33
+    (refusal-count (judged-before e) (headed (c .before .before))
+    (sym (c .before .count-right .ensures) ∙ not-true _ (c .if4 .taken)))
+    (λ x. omega arith)
 
 returns-5 : tie.Need-returns-5 Inv-bytes μ-bytes Inv-search μ-search
 returns-5 c =
@@ -156,12 +186,14 @@ returns-5 c =
     stopped e 33
     (refusal-byte (judged-before e) (headed (f .before .before .before)) (counted (f .before))
     (unused f ∙ c .before .before .before .bytes .inv
-    ∙ zeros-slice-other 508 (partAt e) (c .before .before .before .bytes .at) (whole e) (c .before .before .bytes-test .taken) (c .if5 .taken)))
+    ∙ zeros-slice-other 508 (partAt e) (c .before .before .before .bytes .at) (whole e)
+    (c .before .before .bytes-test .taken) (c .if5 .taken)))
     (λ x. omega arith)
 
 returns-6 : tie.Need-returns-6 Inv-bytes μ-bytes Inv-search μ-search
 returns-6 c =
-    stopped (begunAt (c .before .before .before .before .before)) (c .before .block-setup-refusal .result) (refused-as (c .before)) (c .if6 .taken)
+    stopped (begunAt (c .before .before .before .before .before)) (c .before .block-setup-refusal .result)
+    (refused-as (c .before)) (c .if6 .taken)
 
 pub judge-blocks-spec : {M : Type 1} → statement M
 judge-blocks-spec =
