@@ -1,11 +1,10 @@
 -- A run is taken apart, and put together with its queue from place 0 on. Assumes nothing.
-use Prim.Native.Nat.{ℕ, _≤_, _<_}
+use Prim.Native.Nat.{ℕ}
 use native.Mathlib.Omega.{arith}
 use mathlib.Core.Path.{_≡_, refl, sym, ap, _∙_, subst}
 use mathlib.Core.List.{List, _++_}
 use lib.ListN.{take, drop}
 use lib.Dec.{ltb}
-use Rattle.lists.specs.Lists.{at, times}
 use Rattle.lists.proofs.Testing.{tested, cond-same}
 use Rattle.rule.specs.Setups.{isPriority}
 use Rattle.rule.specs.State.{State}

@@ -1,18 +1,18 @@
--- Laws of the queue in its array, over the policy. In order: its tasks; who is chosen; heads; a task that leaves; the queue
--- from place 0 on, and a task that joins. Assumes nothing.
-use Prim.Native.Nat.{ℕ, zero, suc, _+_, _-_, _*_, _≤_, _<_, zero-le}
+-- Laws of the queue in its array, over the policy. In order: its tasks; who is chosen; heads; a task that leaves; the
+-- queue from place 0 on, and a task that joins. Assumes nothing.
+use Prim.Native.Nat.{ℕ, zero, suc, _+_, _-_, _≤_, _<_, zero-le}
 use native.Mathlib.Omega.{arith}
 use native.Mathlib.Numerals.{add-one}
 use native.Mathlib.Nat.{not-suc-le-zero, le-of-suc-le-suc}
 use mathlib.Core.Path.{_≡_, refl, sym, ap, _∙_, subst}
-use mathlib.Core.Bool.{Bool, true, false, cond, true≢false}
+use mathlib.Core.Bool.{Bool, true, false, cond}
 use mathlib.Core.List.{List, [], _∷_, _++_}
 use lib.ListN.{length, set, take, drop, length-append, length-drop, take-append-drop, drop-of-length-le}
 use lib.Seq.{length-take-le, getD-take, take-at, drop-at, take-take, take-suc, take-set-le, take-suc-set, slice-cons}
 use lib.Dec.{ltb}
 use borrow.Author.Tests.{lt-ltb, le-ltb, ltb-true, ltb-false}
 use Rattle.lists.specs.Lists.{at, times, without}
-use Rattle.lists.proofs.Testing.{tested, equal-or, cond-true, cond-false}
+use Rattle.lists.proofs.Testing.{tested, cond-true, cond-false}
 use Rattle.lists.proofs.Totals.{at-set-other}
 use Rattle.lists.proofs.Places.{Below, below-append, below-take, below-drop, without-place}
 use Rattle.rule.specs.Setups.{isPriority}
@@ -51,7 +51,8 @@ pub queueAt-below : (s : Setup) (m h n : ℕ) (q : List ℕ) → Below m q → B
 queueAt-below s m h n q b =
     let t : Below m (take n q) = below-take m n q b in
     queueAt-either (Below m) s h n q (λ e. t)
-    (λ e. below-append m (drop h (take n q)) (take h (take n q)) (below-drop m h (take n q) t) (below-take m h (take n q) t))
+    (λ e.
+    below-append m (drop h (take n q)) (take h (take n q)) (below-drop m h (take n q) t) (below-take m h (take n q) t))
 
 -- where the head is place 0
 pub queueAt-zero : (s : Setup) (n : ℕ) (q : List ℕ) → queueAt s 0 n q ≡ take n q
@@ -96,8 +97,8 @@ pub record Scanned (prio : List ℕ) (n : ℕ) (q : List ℕ) (place top k : ℕ
   pub ahead : best prio (at q 0) (drop 1 (take n q)) ≡ best prio (at q place) (drop k (take n q))
 
 pub scanned-step : (prio : List ℕ) (n : ℕ) (q : List ℕ) (place top k other place′ top′ : ℕ) → k < n → n ≤ length q
-    → Tasks q → other ≡ key prio (at q k) → place′ ≡ cond (ltb top other) k place → top′ ≡ cond (ltb top other) other top
-    → Scanned prio n q place top k → Scanned prio n q place′ top′ (k + 1)
+    → Tasks q → other ≡ key prio (at q k) → place′ ≡ cond (ltb top other) k place
+    → top′ ≡ cond (ltb top other) other top → Scanned prio n q place top k → Scanned prio n q place′ top′ (k + 1)
 unfolding best
 scanned-step prio n q place top k other place′ top′ h l known o p t S =
     record {
@@ -139,7 +140,8 @@ unfolding before
 before-same prio a =
     tested (ltb (at prio a) (at prio a)) (λ e. rw e) (λ e. rw e (tested (ltb a a) (λ f. rw f) (λ f. rw f)))
 
-best-append : (prio : List ℕ) (b : ℕ) (xs : List ℕ) (y : ℕ) → best prio b (xs ++ y ∷ []) ≡ before prio (best prio b xs) y
+best-append : (prio : List ℕ) (b : ℕ) (xs : List ℕ) (y : ℕ)
+    → best prio b (xs ++ y ∷ []) ≡ before prio (best prio b xs) y
 unfolding best
 best-append prio b [] y = refl
 best-append prio b (x ∷ xs) y = best-append prio (before prio b x) xs y

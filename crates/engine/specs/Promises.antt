@@ -1,5 +1,6 @@
--- What the functions on a run's parts ask and promise. In order: places of the queue's array; a row of ticks to one task;
--- moves of the clock; a request; the next completion; a run taken apart. Primed names are arrays afterwards. Assumes nothing.
+-- What the functions on a run's parts ask and promise. In order: places of the queue's array; a row of ticks to one
+-- task; moves of the clock; a request; the next completion; a run taken apart. Primed names are arrays afterwards.
+-- Assumes nothing.
 use Prim.Native.Nat.{ℕ, _+_, _-_, _*_, _≤_, _<_}
 use mathlib.Core.Path.{_≡_}
 use mathlib.Core.Bool.{true, false, cond, not}
@@ -7,17 +8,17 @@ use mathlib.Core.List.{List, [], _∷_}
 use lib.ListN.{length, take, drop, set}
 use lib.Dec.{eqb, ltb, leb}
 use Rattle.lists.specs.Lists.{at, times, within}
-use Rattle.rule.specs.Refusal.{Refusal, refuse, first}
+use Rattle.rule.specs.Refusal.{refuse, first}
 use Rattle.rule.specs.Setups.{isPriority}
 use Rattle.rule.specs.State.{State}
-use Rattle.rule.specs.Tick.{best, chosen, ticks}
+use Rattle.rule.specs.Tick.{best, ticks}
 use Rattle.rule.specs.Calls.{lastTime, mostAmount, moved, opened, requestRefusal}
 use Rattle.rule.specs.View.{view}
 use Rattle.rule.specs.declared.Setup.{Setup}
 use Rattle.rule.specs.declared.Run.{Run}
 use Rattle.laws.specs.Sound.{Sound}
 use Rattle.laws.specs.Next.{DoneNext}
-use Rattle.engine.specs.Parts.{parts, queueAt, takenOut, turnedTo, Kept}
+use Rattle.engine.specs.Parts.{parts, takenOut, turnedTo, Kept}
 use Rattle.engine.specs.declared.Cursor.{Cursor}
 use Rattle.engine.specs.declared.steps.Leg.{Leg}
 use Rattle.engine.specs.declared.Asked.{Asked}
@@ -29,8 +30,8 @@ use Rattle.engine.specs.declared.Completion.{Completion}
 abbrev pub Tasks : List ℕ → Type 0
 Tasks q = (k : ℕ) → at q k < 32
 
--- "the greatest priority number ..; among equals, .. the smaller task number": of two tasks the one with the greater key
--- goes first
+-- "the greatest priority number ..; among equals, .. the smaller task number": of two tasks the one with the greater
+-- key goes first
 abbrev pub key : List ℕ → ℕ → ℕ
 key prio task = at prio task * 32 + (31 - task)
 
@@ -115,8 +116,8 @@ pub record Opens (s : Setup) (c : Cursor) (task amount : ℕ) (q o : List ℕ) (
   pub kept : Kept s r q′
   pub shown : (g d : List ℕ) → parts s r q′ o′ g d ≡ opened (parts s c q o g d) task amount
 
--- What a request leaves of the parts' state: accepted, the task is open; refused by 10 to 13, nothing has changed; refused
--- by 14, the clock has moved (who asks keeps the run, or stops).
+-- What a request leaves of the parts' state. Accepted, it has opened the task. Refused by 10 to 13, it has changed
+-- nothing. Refused by 14, it has moved the clock: who asked by value keeps the run, and a table stops.
 unfoldable pub asked : State → ℕ → ℕ → ℕ → State
 asked s t k a =
     cond (eqb (requestRefusal s t k a) 0) (opened (moved s t) k a)

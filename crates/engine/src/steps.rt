@@ -1,5 +1,5 @@
-// A step of the clock: idle ticks, or a row of ticks to one task. In order: the turn, the next row of ticks, what it gives,
-// the cursor after it, the step.
+// A step of the clock: idle ticks, or a row of ticks to one task. In order: the turn, the next row of ticks, what it
+// gives, the cursor after it, the step.
 use crate::Cursor;
 use crate::line;
 use rule::Setup;
