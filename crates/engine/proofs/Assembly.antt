@@ -13,7 +13,8 @@ use Rattle.rule.specs.declared.Setup.{Setup}
 use Rattle.rule.specs.declared.Run.{Run}
 use Rattle.laws.specs.Sound.{Sound}
 use Rattle.engine.specs.Parts.{queueAt, parts, Kept, straightTo}
-use Rattle.engine.specs.Promises.{Tasks, Heads, Apart}
+use Rattle.engine.specs.Inner.{Tasks, Heads}
+use Rattle.engine.specs.Promises.{Apart}
 use Rattle.engine.specs.declared.Cursor.{Cursor}
 use Rattle.engine.proofs.Queues.{queueAt-priority, queueAt-zero, heads-inside, heads-serves, straight-take}
 use Rattle.engine.proofs.Joining.{straight-whole, straight-clear}

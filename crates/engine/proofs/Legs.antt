@@ -21,7 +21,7 @@ use Rattle.laws.specs.Sound.{Sound}
 use Rattle.laws.proofs.Ticks.{ticks-clock}
 use Rattle.laws.proofs.Jump.{ticks-idle, ticks-jump}
 use Rattle.engine.specs.Parts.{queueAt, takenOut, parts, Kept, turnedTo, servedTo, restedTo}
-use Rattle.engine.specs.Promises.{Tasks, Ready, Leads, Finished, Stepped}
+use Rattle.engine.specs.Inner.{Tasks, Ready, Leads, Finished, Stepped}
 use Rattle.engine.specs.declared.Cursor.{Cursor}
 use Rattle.engine.specs.declared.steps.Leg.{Leg}
 use Rattle.engine.proofs.Rings.{takenOut-length, drop-takenOut}

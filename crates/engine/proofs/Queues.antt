@@ -19,7 +19,7 @@ use Rattle.rule.specs.Setups.{isPriority}
 use Rattle.rule.specs.Tick.{before, best, chosen}
 use Rattle.rule.specs.declared.Setup.{Setup}
 use Rattle.engine.specs.Parts.{ring, queueAt, takenOut}
-use Rattle.engine.specs.Promises.{Tasks, key, Best, Heads}
+use Rattle.engine.specs.Inner.{Tasks, key, Best, Heads}
 use Rattle.engine.proofs.Rings.{ring-zero, ring-length, ring-times, ring-head, take-takenOut, ring-takenOut}
 
 -- ---- the tasks of the queue

@@ -11,7 +11,7 @@ use Rattle.rule.specs.Setups.{isPriority}
 use Rattle.rule.specs.Tick.{overdue, headBack, turn}
 use Rattle.rule.specs.declared.Setup.{Setup}
 use Rattle.engine.specs.Parts.{queueAt, parts, Kept, due, nextPlace, turnedTo}
-use Rattle.engine.specs.Promises.{Room}
+use Rattle.engine.specs.Inner.{Room}
 use Rattle.engine.specs.declared.Cursor.{Cursor}
 use Rattle.engine.proofs.Rings.{ring-next}
 use Rattle.engine.proofs.Queues.{queueAt-robin, chosen-robin}

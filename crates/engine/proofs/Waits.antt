@@ -15,7 +15,7 @@ use Rattle.laws.specs.Next.{DoneNext}
 use Rattle.laws.proofs.Sound.{ticks-sound}
 use Rattle.laws.proofs.NextDone.{next-jumped, next-passed}
 use Rattle.engine.specs.Parts.{parts, Kept, servedTo}
-use Rattle.engine.specs.Promises.{Leads}
+use Rattle.engine.specs.Inner.{Leads}
 use Rattle.engine.specs.declared.Cursor.{Cursor}
 use Rattle.engine.specs.declared.steps.Leg.{Leg}
 use Rattle.engine.proofs.Legs.{leg-clock, leg-owes, leg-turn, leg-chosen, leg-some}

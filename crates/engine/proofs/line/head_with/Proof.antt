@@ -7,7 +7,7 @@ use lib.Dec.{ltb}
 use borrow.Author.Tests.{eqb-true, eqb-false, lt-ltb, le-ltb}
 use borrow.Author.Needs.{needs}
 use Rattle.lists.proofs.Testing.{cond-true, cond-false}
-use Rattle.engine.specs.Promises.{Heads}
+use Rattle.engine.specs.Inner.{Heads}
 use Rattle.engine.proofs.Queues.{heads-inside, best-more}
 use Rattle.engine.proofs.line.head_with.Statement.{statement}
 use Rattle.engine.proofs.line.head_with.Tie as tie

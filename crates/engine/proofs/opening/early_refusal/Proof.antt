@@ -4,7 +4,7 @@ use mathlib.Core.Bool.{false}
 use lib.Dec.{ltb, leb}
 use borrow.Author.Tests.{lt-ltb, le-ltb, le-leb, lt-leb}
 use Rattle.lists.proofs.Testing.{within-below, within-above, within-holds}
-use Rattle.engine.specs.Promises.{earlyRefusal}
+use Rattle.engine.specs.Inner.{earlyRefusal}
 use Rattle.engine.proofs.opening.early_refusal.Statement.{statement}
 use Rattle.engine.proofs.opening.early_refusal.Tie as tie
 

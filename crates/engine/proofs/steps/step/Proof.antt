@@ -6,7 +6,7 @@ use borrow.Author.Needs.{needs}
 use Rattle.lists.specs.Lists.{at}
 use Rattle.laws.specs.Sound.{Sound}
 use Rattle.engine.specs.Parts.{parts, Kept}
-use Rattle.engine.specs.Promises.{Leads}
+use Rattle.engine.specs.Inner.{Leads}
 use Rattle.engine.proofs.Legs.{ready, kept-tasks, leg-known, leg-owes, leg-gives, leg-clock, leg-kept, leg-some}
 use Rattle.engine.proofs.Legs.{rested-stepped, finished-stepped, served-stepped}
 use Rattle.engine.proofs.steps.step.Statement.{statement}
