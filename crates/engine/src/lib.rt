@@ -54,6 +54,7 @@ pub fn walk(
     c
 }
 
+// The ticks owed to all tasks.
 pub fn total_of(owed: &[u32; 32]) -> u32
     requires { ⌜ length (now owed) ≡ 32 ⌝ }
     requires { ⌜ total (now owed) < 2 ^ 32 ⌝ }

@@ -48,6 +48,7 @@ pub fn take_out(queue: &mut [u8; 32], place: usize)
     queue[31] = 0;
 }
 
+// A byte that is known to be below 256: of one read from a lent array that is not known.
 fn wide(x: u8) -> u32
     ensures { λ r. ⌜ (r ≡ x) × (r < 256) ⌝ }
 {
