@@ -16,7 +16,8 @@ use Rattle.engine.specs.Parts.{queueAt, parts, Kept, straightTo}
 use Rattle.engine.specs.Inner.{Tasks, Heads}
 use Rattle.engine.specs.Promises.{Apart}
 use Rattle.engine.specs.declared.Cursor.{Cursor}
-use Rattle.engine.proofs.Queues.{queueAt-priority, queueAt-zero, heads-inside, heads-serves, straight-take}
+use Rattle.engine.proofs.Queues.{queueAt-priority, queueAt-zero, straight-take}
+use Rattle.engine.proofs.Heads.{heads-inside, heads-serves}
 use Rattle.engine.proofs.Joining.{straight-whole, straight-clear}
 use Rattle.engine.proofs.Legs.{places-tasks}
 

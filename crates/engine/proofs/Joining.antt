@@ -17,7 +17,7 @@ use Rattle.rule.specs.declared.Setup.{Setup}
 use Rattle.engine.specs.Parts.{queueAt, Kept, straightTo}
 use Rattle.engine.specs.Inner.{Tasks, Heads, Opens}
 use Rattle.engine.specs.declared.Cursor.{Cursor}
-use Rattle.engine.proofs.Queues.{chosen-robin, heads-inside, heads-serves, serves-heads, heads-set}
+use Rattle.engine.proofs.Heads.{chosen-robin, heads-inside, heads-serves, serves-heads, heads-set}
 use Rattle.engine.proofs.Queues.{straight-drop, straight-length, straight-priority}
 use Rattle.engine.proofs.Queues.{queueAt-below, queueAt-joined}
 

@@ -25,7 +25,8 @@ use Rattle.engine.specs.Inner.{Tasks, Ready, Leads, Finished, Stepped}
 use Rattle.engine.specs.declared.Cursor.{Cursor}
 use Rattle.engine.specs.declared.steps.Leg.{Leg}
 use Rattle.engine.proofs.Rings.{takenOut-length, drop-takenOut}
-use Rattle.engine.proofs.Queues.{queueAt-times, queueAt-length, heads-inside, heads-serves, queueAt-takenOut}
+use Rattle.engine.proofs.Queues.{queueAt-times, queueAt-length, queueAt-takenOut}
+use Rattle.engine.proofs.Heads.{heads-inside, heads-serves}
 use Rattle.engine.proofs.Turns.{turned-kept, parts-turn}
 
 -- ---- the tasks in the array

@@ -14,7 +14,8 @@ use Rattle.engine.specs.Parts.{queueAt, parts, Kept, due, nextPlace, tur
 use Rattle.engine.specs.Inner.{Room}
 use Rattle.engine.specs.declared.Cursor.{Cursor}
 use Rattle.engine.proofs.Rings.{ring-next}
-use Rattle.engine.proofs.Queues.{queueAt-robin, chosen-robin}
+use Rattle.engine.proofs.Queues.{queueAt-robin}
+use Rattle.engine.proofs.Heads.{chosen-robin}
 
 next-below : (h n : ℕ) (b : Bool) → h < n → cond b (cond (eqb (h + 1) n) 0 (h + 1)) h < n
 next-below h n false l = l

@@ -1,4 +1,4 @@
--- Invariant: the best of the places passed (Queues). Measure: the places left.
+-- Invariant: the best of the places passed (Heads). Measure: the places left.
 use Prim.Native.Nat.{ℕ, _+_, _-_, _≤_}
 use native.Mathlib.Omega.{arith}
 use mathlib.Core.Path.{_≡_, refl, sym, _∙_}
@@ -9,7 +9,7 @@ use lib.Dec.{ltb}
 use borrow.Author.Needs.{needs}
 use borrow.Author.Tests.{lt-ltb, le-ltb}
 use Rattle.lists.proofs.Testing.{cond-true, cond-false}
-use Rattle.engine.proofs.Queues.{Scanned, scanned-step, scanned-end}
+use Rattle.engine.proofs.Heads.{Scanned, scanned-step, scanned-end}
 use Rattle.engine.proofs.line.best_place.Statement.{statement}
 use Rattle.engine.proofs.line.best_place.Tie as tie
 

@@ -1,4 +1,4 @@
--- Of the head and the task that joined, the one with the greater key (Queues).
+-- Of the head and the task that joined, the one with the greater key (Heads).
 use Prim.Native.Nat.{ℕ, _+_, _<_}
 use native.Mathlib.Omega.{arith}
 use mathlib.Core.Path.{_≡_, sym}
@@ -8,7 +8,7 @@ use borrow.Author.Tests.{eqb-true, eqb-false, lt-ltb, le-ltb}
 use borrow.Author.Needs.{needs}
 use Rattle.lists.proofs.Testing.{cond-true, cond-false}
 use Rattle.engine.specs.Inner.{Heads}
-use Rattle.engine.proofs.Queues.{heads-inside, best-more}
+use Rattle.engine.proofs.Heads.{heads-inside, best-more}
 use Rattle.engine.proofs.line.head_with.Statement.{statement}
 use Rattle.engine.proofs.line.head_with.Tie as tie
 
