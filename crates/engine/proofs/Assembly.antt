@@ -1,11 +1,10 @@
 -- A run is taken apart, and put together with its queue from place 0 on. Assumes nothing.
-use Prim.Native.Nat.{ℕ, _≤_, _<_}
+use Prim.Native.Nat.{ℕ}
 use native.Mathlib.Omega.{arith}
-use mathlib.Core.Path.{_≡_, refl, sym, ap, _∙_, subst}
+use mathlib.Core.Path.{_≡_, refl, ap, _∙_}
 use mathlib.Core.List.{List, _++_}
 use lib.ListN.{take, drop}
 use lib.Dec.{ltb}
-use Rattle.lists.specs.Lists.{at, times}
 use Rattle.lists.proofs.Testing.{tested, cond-same}
 use Rattle.rule.specs.Setups.{isPriority}
 use Rattle.rule.specs.State.{State}
@@ -14,9 +13,11 @@ use Rattle.rule.specs.declared.Setup.{Setup}
 use Rattle.rule.specs.declared.Run.{Run}
 use Rattle.laws.specs.Sound.{Sound}
 use Rattle.engine.specs.Parts.{queueAt, parts, Kept, straightTo}
-use Rattle.engine.specs.Promises.{Tasks, Heads, Apart}
+use Rattle.engine.specs.Inner.{Tasks, Heads}
+use Rattle.engine.specs.Promises.{Apart}
 use Rattle.engine.specs.declared.Cursor.{Cursor}
-use Rattle.engine.proofs.Queues.{queueAt-priority, queueAt-zero, heads-inside, heads-serves, straight-take}
+use Rattle.engine.proofs.Queues.{queueAt-priority, queueAt-zero, straight-take}
+use Rattle.engine.proofs.Heads.{heads-inside, heads-serves}
 use Rattle.engine.proofs.Joining.{straight-whole, straight-clear}
 use Rattle.engine.proofs.Legs.{places-tasks}
 

@@ -3,7 +3,7 @@ use Prim.Native.Nat.{ℕ, suc, _+_, _-_, _≤_, _<_, zero-le}
 use native.Mathlib.Omega.{arith}
 use mathlib.Core.Path.{_≡_, sym, ap, _∙_, subst}
 use mathlib.Core.Bool.{Bool, true, false, cond}
-use mathlib.Core.List.{List, [], _∷_, _++_}
+use mathlib.Core.List.{List, _++_}
 use lib.ListN.{length, set, drop, replicate, length-set}
 use lib.Seq.{drop-set-lt, drop-drop}
 use lib.Dec.{ltb}
@@ -14,11 +14,12 @@ use Rattle.rule.specs.Setups.{isPriority}
 use Rattle.rule.specs.Tick.{chosen}
 use Rattle.rule.specs.Calls.{opened}
 use Rattle.rule.specs.declared.Setup.{Setup}
-use Rattle.engine.specs.Parts.{queueAt, parts, Kept, straightTo}
-use Rattle.engine.specs.Promises.{Tasks, Heads, Opens}
+use Rattle.engine.specs.Parts.{queueAt, Kept, straightTo}
+use Rattle.engine.specs.Inner.{Tasks, Heads, Opens}
 use Rattle.engine.specs.declared.Cursor.{Cursor}
-use Rattle.engine.proofs.Queues.{queueAt-below, chosen-robin, heads-inside, heads-serves, serves-heads, heads-set}
-use Rattle.engine.proofs.Queues.{straight-drop, straight-length, straight-priority, queueAt-joined}
+use Rattle.engine.proofs.Heads.{chosen-robin, heads-inside, heads-serves, serves-heads, heads-set}
+use Rattle.engine.proofs.Queues.{straight-drop, straight-length, straight-priority}
+use Rattle.engine.proofs.Queues.{queueAt-below, queueAt-joined}
 
 -- ---- the queue from place 0 on
 
@@ -59,7 +60,8 @@ module _ (s : Setup) (c : Cursor) (q : List ℕ) (K : Kept s c q) (q′ : List �
   straight-heads r task er =
       rw er
       (heads-set s (straightTo s c .head) (c .queued) q′ task
-      (serves-heads s (straightTo s c .head) (c .queued) q′ (inside (isPriority s)) (omega (arith, straight-whole, K .fits))
+      (serves-heads s (straightTo s c .head) (c .queued) q′ (inside (isPriority s))
+      (omega (arith, straight-whole, K .fits))
       straight-serves))
     where
       inside : (b : Bool) → cond b (c .head) 0 ≤ c .queued - 1
@@ -103,7 +105,8 @@ module _ (s : Setup) (c : Cursor) (q : List ℕ) (K : Kept s c q) (q′ : List �
                   clear = clear;
                   inside = heads-inside s (straightTo s c .head) (c .queued + 1) (set q′ (c .queued) task) head H;
                   serves = λ p.
-                      heads-serves s (straightTo s c .head) (c .queued + 1) (set q′ (c .queued) task) head H p (omega (arith, whole));
+                      heads-serves s (straightTo s c .head) (c .queued + 1) (set q′ (c .queued) task) head H p
+                      (omega (arith, whole));
                 };
             shown = λ g d.
                 unfold opened in

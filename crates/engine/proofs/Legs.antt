@@ -1,9 +1,9 @@
--- What a row of ticks does to the state of the parts. In order: the tasks in the array; the parts of a sound state, and idle ticks; a
--- row of ticks to one task, that ends before the task is done, or with which it is done. Assumes nothing.
+-- What a row of ticks does to the state of the parts. In order: the tasks in the array; the parts of a sound state, and
+-- idle ticks; a row of ticks that ends before the task is done, and one with which it is done. Assumes nothing.
 use Prim.Native.Nat.{ℕ, _+_, _-_, _≤_, _<_, _^_, min}
 use native.Mathlib.Omega.{arith}
 use mathlib.Core.Path.{_≡_, refl, sym, ap, _∙_, subst}
-use mathlib.Core.Bool.{true, false, cond}
+use mathlib.Core.Bool.{cond}
 use mathlib.Core.List.{List, [], _∷_, _++_}
 use lib.ListN.{length, set, take, drop, replicate, replicate-append-replicate}
 use lib.Seq.{getD-take, getD-drop, length-take-le}
@@ -21,11 +21,12 @@ use Rattle.laws.specs.Sound.{Sound}
 use Rattle.laws.proofs.Ticks.{ticks-clock}
 use Rattle.laws.proofs.Jump.{ticks-idle, ticks-jump}
 use Rattle.engine.specs.Parts.{queueAt, takenOut, parts, Kept, turnedTo, servedTo, restedTo}
-use Rattle.engine.specs.Promises.{Tasks, Ready, Leads, Finished, Stepped}
+use Rattle.engine.specs.Inner.{Tasks, Ready, Leads, Finished, Stepped}
 use Rattle.engine.specs.declared.Cursor.{Cursor}
 use Rattle.engine.specs.declared.steps.Leg.{Leg}
 use Rattle.engine.proofs.Rings.{takenOut-length, drop-takenOut}
-use Rattle.engine.proofs.Queues.{queueAt-times, queueAt-length, heads-inside, heads-serves, queueAt-takenOut}
+use Rattle.engine.proofs.Queues.{queueAt-times, queueAt-length, queueAt-takenOut}
+use Rattle.engine.proofs.Heads.{heads-inside, heads-serves}
 use Rattle.engine.proofs.Turns.{turned-kept, parts-turn}
 
 -- ---- the tasks in the array
@@ -92,7 +93,8 @@ module _ (s : Setup) (c : Cursor) (q o g d : List ℕ) (K : Kept s c q) (S : Sou
   unfolding restedTo
   rested-stepped limit r z h er =
       rw er
-      (stepped s (restedTo c limit) q limit limit (parts s c q o g d) (parts s (restedTo c limit) q o g d) h (omega arith)
+      (stepped s (restedTo c limit) q limit limit (parts s c q o g d) (parts s (restedTo c limit) q o g d) h
+      (omega arith)
       (record { fits = K .fits; whole = K .whole; clear = K .clear; inside = K .inside; serves = K .serves })
       (resting ∙ sym (ticks-idle limit (parts s c q o g d) empty)))
     where
@@ -207,7 +209,8 @@ module _ (s : Setup) (c : Cursor) (q o g d : List ℕ) (K : Kept s c q) (S : Sou
 
       finished-kept : Kept s r q′
       finished-kept =
-          let w : length q′ ≡ 32 = ap length (F .left) ∙ takenOut-length h q (omega (arith, head-below, room)) ∙ K .whole in
+          let w : length q′ ≡ 32 =
+          ap length (F .left) ∙ takenOut-length h q (omega (arith, head-below, room)) ∙ K .whole in
           let m : r .queued ≤ 32 = omega (arith, F .queued, leg-kept .fits) in
           let z : 32 - n + 1 ≡ 32 - r .queued = omega (arith, F .queued, head-below, leg-kept .fits) in
           record {

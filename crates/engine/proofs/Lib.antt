@@ -1,5 +1,6 @@
 pub mod Rings
 pub mod Queues
+pub mod Heads
 pub mod Turns
 pub mod Legs
 pub mod Walks

@@ -1,6 +1,6 @@
 -- A request on the parts. In order: the refusals before and after the move of the clock; what the request leaves; the
 -- promise, for each of its three ends. Assumes nothing.
-use Prim.Native.Nat.{ℕ, _+_, _≤_, _<_}
+use Prim.Native.Nat.{ℕ, _≤_, _<_}
 use native.Mathlib.Omega.{arith}
 use mathlib.Core.Path.{_≡_, refl, sym, ap, _∙_, subst}
 use mathlib.Core.Bool.{Bool, true, false, cond, not}
@@ -14,13 +14,12 @@ use Rattle.rule.specs.State.{State, isOpen}
 use Rattle.rule.specs.Calls.{lastTime, mostAmount, moved, opened, requestRefusal}
 use Rattle.rule.specs.declared.Setup.{Setup}
 use Rattle.laws.specs.Sound.{Sound}
-use Rattle.laws.specs.Accepted.{Requested}
 use Rattle.laws.proofs.Refusals.{request-accepted}
 use Rattle.laws.proofs.Made.{queue-short, request-sound}
 use Rattle.engine.specs.Parts.{queueAt, parts, Kept}
-use Rattle.engine.specs.Promises.{Reached, earlyRefusal, Opens, asked, Asks}
+use Rattle.engine.specs.Inner.{earlyRefusal, Opens}
+use Rattle.engine.specs.Promises.{Reached, asked, Asks}
 use Rattle.engine.specs.declared.Cursor.{Cursor}
-use Rattle.engine.specs.declared.Asked.{Asked}
 use Rattle.engine.proofs.Queues.{queueAt-length}
 
 -- ---- the refusals

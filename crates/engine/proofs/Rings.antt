@@ -1,16 +1,17 @@
--- Laws of the queue's array as a list. In order: the ring; the ring put straight; a task taken out at its place. Assumes
--- nothing.
+-- Laws of the queue's array as a list. In order: the ring; the ring put straight; a task taken out at its place.
+-- Assumes nothing.
 use Prim.Native.Nat.{ℕ, zero, suc, _+_, _-_, _≤_, _<_}
 use native.Mathlib.Omega.{arith}
 use native.Mathlib.Numerals.{add-one}
-use mathlib.Core.Path.{_≡_, refl, sym, ap, _∙_}
+use mathlib.Core.Path.{_≡_, sym, ap, _∙_}
 use mathlib.Core.Bool.{cond}
 use mathlib.Core.List.{List, [], _∷_, _++_, append-assoc, append-nil}
-use lib.ListN.{length, take, drop, replicate, length-append, length-take, length-drop, take-append-drop, drop-of-length-le, set}
-use lib.Seq.{take-suc, drop-cons, take-length, drop-length, take-take, drop-drop, take-at, drop-at, length-take-le, length-slice}
-use lib.Seq.{take-all, getD-drop, set-at, paste-zero, length-paste, slice-cons, take-append-le, take-append-add, drop-append-le, drop-append-add, paste, take-paste, drop-paste}
+use lib.ListN.{length, take, drop, set, length-append, length-drop, take-append-drop, drop-of-length-le}
+use lib.Seq.{take-suc, take-length, take-take, take-at, take-all, take-append-le, take-append-add, length-take-le}
+use lib.Seq.{drop-cons, drop-length, drop-drop, drop-at, drop-append-le, drop-append-add, getD-drop, set-at}
+use lib.Seq.{slice-cons, length-slice, paste, paste-zero, length-paste, take-paste, drop-paste}
 use lib.Dec.{eqb, ltb}
-use borrow.Author.Tests.{eqb-true, ltb-true, ltb-false}
+use borrow.Author.Tests.{eqb-true, ltb-false}
 use Rattle.lists.specs.Lists.{at, times}
 use Rattle.lists.proofs.Testing.{tested, cond-true, cond-false}
 use Rattle.lists.proofs.Counting.{times-append}
@@ -125,7 +126,8 @@ module _ (h : ℕ) (q : List ℕ) (b : h < 32) (w : length q ≡ 32) where
   movedUp-length k x a l e =
       ap length e ∙ length-paste q h (drop (h + 1) q) (k - h) (omega arith) (simp length-drop (omega arith)) ∙ w
 
-  pub movedUp-step : (k : ℕ) (x : List ℕ) → h ≤ k → k < 31 → MovedUp h q k x → MovedUp h q (k + 1) (set x k (at x (k + 1)))
+  pub movedUp-step : (k : ℕ) (x : List ℕ) → h ≤ k → k < 31 → MovedUp h q k x
+      → MovedUp h q (k + 1) (set x k (at x (k + 1)))
   movedUp-step k x a l e =
       let j = k - h in
       let t = drop (h + 1) q in
@@ -155,7 +157,8 @@ module _ (h : ℕ) (q : List ℕ) (b : h < 32) (w : length q ≡ 32) where
       let a : take (k - h) t ≡ t = take-all (k - h) t (simp length-drop (omega arith)) in
       let i : h + (k - h) ≡ 31 = omega arith in
       let d : drop 31 q ≡ at q 31 ∷ [] =
-      drop-cons q 31 0 (omega arith) ∙ ap (λ (y : List ℕ). at q 31 ∷ y) (drop-of-length-le q {i = suc 31} (omega arith)) in
+      drop-cons q 31 0 (omega arith)
+      ∙ ap (λ (y : List ℕ). at q 31 ∷ y) (drop-of-length-le q {i = suc 31} (omega arith)) in
       ap (λ (y : List ℕ). set y 31 0)
       (e
       ∙ ap (λ (y : List ℕ). take h q ++ y ++ drop (h + (k - h)) q) a

@@ -1,5 +1,5 @@
 -- What the turn does to the parts: the cursor's head moves, and no task does. Assumes nothing.
-use Prim.Native.Nat.{ℕ, _+_, _-_, _≤_, _<_}
+use Prim.Native.Nat.{ℕ, _+_, _≤_, _<_}
 use native.Mathlib.Omega.{arith}
 use mathlib.Core.Path.{_≡_, sym, ap, _∙_}
 use mathlib.Core.Bool.{Bool, true, false, cond, false≢true}
@@ -11,10 +11,11 @@ use Rattle.rule.specs.Setups.{isPriority}
 use Rattle.rule.specs.Tick.{overdue, headBack, turn}
 use Rattle.rule.specs.declared.Setup.{Setup}
 use Rattle.engine.specs.Parts.{queueAt, parts, Kept, due, nextPlace, turnedTo}
-use Rattle.engine.specs.Promises.{Room}
+use Rattle.engine.specs.Inner.{Room}
 use Rattle.engine.specs.declared.Cursor.{Cursor}
 use Rattle.engine.proofs.Rings.{ring-next}
-use Rattle.engine.proofs.Queues.{queueAt-robin, chosen-robin}
+use Rattle.engine.proofs.Queues.{queueAt-robin}
+use Rattle.engine.proofs.Heads.{chosen-robin}
 
 next-below : (h n : ℕ) (b : Bool) → h < n → cond b (cond (eqb (h + 1) n) 0 (h + 1)) h < n
 next-below h n false l = l

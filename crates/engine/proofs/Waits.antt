@@ -1,8 +1,8 @@
--- The parts while they wait for the next task to be done. What is given meanwhile is in no array, so it is a field here.
+-- The parts while they wait for the next task to be done. What is given meanwhile is in no array: it is a field here.
 -- Assumes nothing.
 use Prim.Native.Nat.{ℕ, _+_, _-_, _≤_, _<_}
 use native.Mathlib.Omega.{arith}
-use mathlib.Core.Path.{_≡_, refl, sym, ap, _∙_, subst}
+use mathlib.Core.Path.{_≡_, sym, ap, _∙_, subst}
 use mathlib.Core.List.{List}
 use lib.ListN.{set}
 use Rattle.lists.specs.Lists.{at, total}
@@ -15,10 +15,11 @@ use Rattle.laws.specs.Next.{DoneNext}
 use Rattle.laws.proofs.Sound.{ticks-sound}
 use Rattle.laws.proofs.NextDone.{next-jumped, next-passed}
 use Rattle.engine.specs.Parts.{parts, Kept, servedTo}
-use Rattle.engine.specs.Promises.{Leads}
+use Rattle.engine.specs.Inner.{Leads}
 use Rattle.engine.specs.declared.Cursor.{Cursor}
 use Rattle.engine.specs.declared.steps.Leg.{Leg}
-use Rattle.engine.proofs.Legs.{leg-clock, leg-owes, leg-turn, leg-chosen, leg-some, parts-some, served-kept, served-ticks}
+use Rattle.engine.proofs.Legs.{leg-clock, leg-owes, leg-turn, leg-chosen, leg-some}
+use Rattle.engine.proofs.Legs.{parts-some, served-kept, served-ticks}
 
 -- what is done next from here on is done next from start on
 pub record Waits (start : State) (s : Setup) (c : Cursor) (q o d : List ℕ) : Type 0 where
@@ -79,7 +80,9 @@ module _ (start : State) (s : Setup) (c : Cursor) (q o d : List ℕ) (W : Waits 
         rw (er, eo) (served-ticks _ _ _ _ _ _ (W .kept) (W .sound) (W .some) _ _ L more)
 
     pub waits-less : total o′ + l .n ≡ total o
-    waits-less = rw eo (omega (arith, total-set o (l .task) (at o (l .task) - l .n) (at-inside o (l .task) (omega arith))))
+    waits-less =
+        let inside = at-inside o (l .task) (omega arith) in
+        rw eo (omega (arith, total-set o (l .task) (at o (l .task) - l .n) inside))
 
     pub waits-step : Waits start s r q o′ d
     waits-step =

@@ -12,7 +12,8 @@ use Rattle.laws.specs.Sound.{Sound}
 use Rattle.laws.proofs.Ticks.{ticks-zero, ticks-add}
 use Rattle.laws.proofs.Sound.{ticks-sound}
 use Rattle.engine.specs.Parts.{Kept}
-use Rattle.engine.specs.Promises.{Stepped, Reached}
+use Rattle.engine.specs.Inner.{Stepped}
+use Rattle.engine.specs.Promises.{Reached}
 use Rattle.engine.specs.declared.Cursor.{Cursor}
 
 -- the parts stand for the state now, which comes of start by ticks

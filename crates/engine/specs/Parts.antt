@@ -1,5 +1,6 @@
--- A run taken apart: its setup, a cursor of small numbers, and the arrays of the queue, of the ticks owed and given, and of
--- the completions. In order: the queue in its array; the state of the parts; the cursor's moves. Assumes nothing.
+-- A run taken apart: its setup, a cursor of small numbers, and the arrays of the queue, of the ticks owed and given,
+-- and of the completions. In order: the queue in its array; the state of the parts; the cursor's moves. Assumes
+-- nothing.
 use Prim.Native.Nat.{ℕ, _+_, _-_, _≤_, _<_}
 use mathlib.Core.Path.{_≡_}
 use mathlib.Core.Bool.{Bool, false, cond}
@@ -19,8 +20,8 @@ use Rattle.engine.specs.declared.Cursor.{Cursor}
 abbrev pub ring : ℕ → ℕ → List ℕ → List ℕ
 ring h n q = drop h (take n q) ++ take h (take n q)
 
--- Under round robin the queue starts at the head, so that a turn moves no task. Under priority it starts at place 0, and
--- the head is the place of the task that is served.
+-- Under round robin the queue starts at the head, so that a turn moves no task. Under priority it starts at place 0,
+-- and the head is the place of the task that is served.
 unfoldable pub queueAt : Setup → ℕ → ℕ → List ℕ → List ℕ
 queueAt s head n q = cond (isPriority s) (take n q) (ring head n q)
 

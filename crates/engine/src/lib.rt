@@ -1,6 +1,6 @@
-// The replay on a run taken apart: a cursor of small numbers by value, and the arrays lent. In order: moves of the clock, a
-// request, the next completion, a run taken apart and put together. Inside: steps of the clock (steps), a task that joins
-// (opening), the queue's array (line).
+// The replay on a run taken apart: a cursor of small numbers by value, and the arrays lent. In order: moves of the
+// clock, a request, the next completion, a run taken apart and put together. Inside: steps of the clock (steps), a task
+// that joins (opening), the queue's array (line).
 mod line;
 mod opening;
 mod steps;
@@ -18,8 +18,8 @@ ghost use Rattle.engine.specs.Parts.{parts, Kept};
 ghost use Rattle.engine.specs.Promises.{Reached, Asks, Owing, SoonestIs, Apart};
 
 // The small numbers of a run, which a move of the clock keeps in registers. The head is the place of the task that is
-// served. The idle ticks are as wide as the places so that no byte of the struct is padding: where there is some, a step
-// under round robin takes 58 instructions and not 49.
+// served. The idle ticks are as wide as the places so that no byte of the struct is padding: with padding a step under
+// round robin takes 58 instructions and not 49.
 pub struct Cursor {
     pub clock: u32,
     pub used: u32,
@@ -54,6 +54,7 @@ pub fn walk(
     c
 }
 
+// The ticks owed to all tasks.
 pub fn total_of(owed: &[u32; 32]) -> u32
     requires { ⌜ length (now owed) ≡ 32 ⌝ }
     requires { ⌜ total (now owed) < 2 ^ 32 ⌝ }

@@ -6,7 +6,7 @@ ghost use Prim.Native.Nat.{ℕ, _+_, _-_, _≤_, _<_};
 ghost use lib.ListN.{length, drop};
 ghost use lib.Seq.{paste};
 ghost use Rattle.engine.specs.Parts.{ring, takenOut};
-ghost use Rattle.engine.specs.Promises.{Tasks, key, Best, Heads};
+ghost use Rattle.engine.specs.Inner.{Tasks, key, Best, Heads};
 
 // A stretch of q is put into an array.
 fn put(into: [u8; 32], at: usize, q: [u8; 32], from: usize, count: usize) -> [u8; 32]
@@ -48,6 +48,7 @@ pub fn take_out(queue: &mut [u8; 32], place: usize)
     queue[31] = 0;
 }
 
+// A byte that is known to be below 256: of one read from a lent array that is not known.
 fn wide(x: u8) -> u32
     ensures { λ r. ⌜ (r ≡ x) × (r < 256) ⌝ }
 {

@@ -7,7 +7,7 @@ ghost use Prim.Native.Nat.{ℕ, _+_, _<_};
 ghost use mathlib.Core.List.{_++_};
 ghost use lib.ListN.{drop};
 ghost use Rattle.engine.specs.Parts.{queueAt, Kept, straightTo};
-ghost use Rattle.engine.specs.Promises.{Tasks, earlyRefusal, Opens};
+ghost use Rattle.engine.specs.Inner.{Tasks, earlyRefusal, Opens};
 
 // The refusal of a request by 10 to 13, or 0.
 pub fn early_refusal(count: u32, clock: u32, time: u32, task: u32, amount: u32) -> u32

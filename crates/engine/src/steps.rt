@@ -1,5 +1,5 @@
-// A step of the clock: idle ticks, or a row of ticks to one task. In order: the turn, the next row of ticks, what it gives,
-// the cursor after it, the step.
+// A step of the clock: idle ticks, or a row of ticks to one task. In order: the turn, the next row of ticks, what it
+// gives, the cursor after it, the step.
 use crate::Cursor;
 use crate::line;
 use rule::Setup;
@@ -10,7 +10,7 @@ ghost use Rattle.lists.specs.Lists.{at};
 ghost use Rattle.rule.specs.Tick.{usedMore};
 ghost use Rattle.laws.specs.Sound.{Sound};
 ghost use Rattle.engine.specs.Parts.{parts, Kept, turnedTo, servedTo, restedTo};
-ghost use Rattle.engine.specs.Promises.{Tasks, Room, Ready, AtOnce, Leads, Finished, Stepped};
+ghost use Rattle.engine.specs.Inner.{Tasks, Room, Ready, AtOnce, Leads, Finished, Stepped};
 
 // A head whose slice is used up moves to the back.
 fn turned(s: Setup, c: Cursor) -> Cursor

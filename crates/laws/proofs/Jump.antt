@@ -1,11 +1,11 @@
--- The law of jumping: while one task is served, n ticks are one service of n ticks. In order: idle ticks; a service in two
--- parts; the turn; the jump; the jump of a sound state. Said once, over the policy. Assumes nothing.
+-- The law of jumping: while one task is served, n ticks are one service of n ticks. In order: idle ticks; a service in
+-- two parts; the turn; the jump; the jump of a sound state. Said once, over the policy. Assumes nothing.
 use Prim.Native.Nat.{ℕ, zero, suc, _+_, _-_, _≤_, _<_}
 use native.Mathlib.Omega.{arith}
 use native.Mathlib.Numerals.{one-add}
 use native.Mathlib.Nat.{add-assoc, add-zero, not-suc-le-zero}
 use mathlib.Core.Path.{_≡_, refl, sym, ap, _∙_, subst}
-use mathlib.Core.Bool.{true, false}
+use mathlib.Core.Bool.{false}
 use mathlib.Core.List.{List, [], _∷_}
 use lib.ListN.{length}
 use lib.Seq.{set-set}

@@ -1,5 +1,5 @@
--- Laws of lists by their places. In order: a stretch of a list; a copy into a list; entries below a number; a number taken
--- out at its place. Assumes nothing.
+-- Laws of lists by their places. In order: a stretch of a list; a copy into a list; entries below a number; a number
+-- taken out at its place. Assumes nothing.
 use Prim.Native.Nat.{ℕ, zero, suc, _+_, _-_, _≤_, _<_}
 use native.Mathlib.Omega.{arith}
 use native.Mathlib.Numerals.{add-one}
@@ -8,10 +8,9 @@ use mathlib.Core.Path.{_≡_, refl, sym, ap, _∙_}
 use mathlib.Core.List.{List, [], _∷_, _++_}
 use lib.ListN.{length, set, take, drop, length-drop}
 use lib.Seq.{take-nil, getD-drop, paste, paste-suc}
-use lib.Dec.{eqb}
 use borrow.Author.Tests.{ne-eqb}
-use Rattle.lists.specs.Lists.{at, same, times, without}
-use Rattle.lists.proofs.Testing.{equal-or, eqb-same, cond-true, cond-false}
+use Rattle.lists.specs.Lists.{at, times, without}
+use Rattle.lists.proofs.Testing.{equal-or, eqb-same}
 use Rattle.lists.proofs.Counting.{same-refl, same-equal, same-other, times-at}
 use Rattle.lists.proofs.Totals.{at-set-same, at-set-other}
 

@@ -1,28 +1,31 @@
-use native.Mathlib.Omega.{arith}
+-- The refusals by 10 to 13, the walk, the test for 14, the join: each return is one end of a request (Requests).
 use Prim.Native.Nat.{_<_}
+use native.Mathlib.Omega.{arith}
 use mathlib.Core.Path.{_≡_, sym, _∙_}
+use borrow.Author.Needs.{needs}
+use Rattle.laws.specs.Sound.{Sound}
 use Rattle.engine.specs.Parts.{parts}
-use Rattle.engine.specs.Promises.{earlyRefusal}
+use Rattle.engine.specs.Inner.{earlyRefusal}
 use Rattle.engine.proofs.Legs.{kept-tasks}
 use Rattle.engine.proofs.Requests.{Passed, early-passed, asks-early, asks-open, queue-room, asks-taken}
-use borrow.Author.Needs.{needs}
 use Rattle.engine.proofs.ask.Statement.{statement}
 use Rattle.engine.proofs.ask.Tie as tie
-use Rattle.engine.proofs.ask.Reads as reads
-use Rattle.engine.proofs.ask.Lts as lts
-use Rattle.engine.proofs.opening.early_refusal.Reads as early-refusal-reads
-use Rattle.engine.proofs.opening.joined.Reads as joined-reads
-use Rattle.engine.proofs.walk.Reads as walk-reads
 
 -- the place past the refusals by 10 to 13, and what is known there
 abbrev past : tie.After-walk → tie.Else1
 past c = c .before .before .before .before .before
 
+sound : (c : tie.After-walk)
+    → let a = past c .before .before .args in
+    Sound (parts (a .s) (a .c) (a .queue .now) (a .owed .now) (a .given .now) (a .done .now))
+sound c = past c .before .before .pre .1
+
 early : (c : tie.Else1)
     → let a = c .before .before .args in earlyRefusal (a .s .count) (a .c .clock) (a .time) (a .task) (a .amount) ≡ 0
 early c = sym (c .before .early-refusal .ensures) ∙ c .if1 .left
 
-passed : (c : tie.Else1) → let a = c .before .before .args in Passed (a .s .count) (a .c .clock) (a .time) (a .task) (a .amount)
+passed : (c : tie.Else1)
+    → let a = c .before .before .args in Passed (a .s .count) (a .c .clock) (a .time) (a .task) (a .amount)
 passed c = early-passed _ _ _ _ _ (early c)
 
 known : (c : tie.Else1) → c .before .before .args .task < 32
@@ -51,7 +54,7 @@ element-copy-out-o c = known (past c)
 returns-2 : tie.Need-returns-2
 returns-2 c =
     let w = c .before .before in
-    asks-open _ _ _ _ _ (past w .before .before .pre .1) (early (past w)) _ _ _ _ _ (w .walk .ensures) (c .if2 .taken)
+    asks-open _ _ _ _ _ (sound w) (early (past w)) _ _ _ _ _ (w .walk .ensures) (c .if2 .taken)
 
 cast-joined : tie.Need-cast-joined
 cast-joined c = omega (arith, known (past (c .before .before)))
@@ -62,7 +65,7 @@ joined-requires c κs =
     let r = w .walk .ensures in (
       r .kept,
       (
-        queue-room _ _ _ _ _ (past w .before .before .pre .1) (early (past w)) _ _ _ _ _ r (omega (arith, c .before .before .if2 .left)),
+        queue-room _ _ _ _ _ (sound w) (early (past w)) _ _ _ _ _ r (omega (arith, c .before .before .if2 .left)),
         (kept-tasks _ _ _ _ _ _ (r .kept) (r .sound), known (past w)),
       ),
     )
@@ -70,7 +73,8 @@ joined-requires c κs =
 returns-3 : tie.Need-returns-3
 returns-3 c =
     let w = c .before .before .before .before .before in
-    asks-taken _ _ _ _ _ (past w .before .before .pre .1) (early (past w)) _ _ _ _ _ (w .walk .ensures) (omega (arith, c .before .before .before .if2 .left)) _ _ _
+    let z = c .before .before .before .if2 .left in
+    asks-taken _ _ _ _ _ (sound w) (early (past w)) _ _ _ _ _ (w .walk .ensures) (omega (arith, z)) _ _ _
     (c .joined .ensures)
 
 pub ask-spec : {M : Type 1} → statement M

@@ -1,10 +1,8 @@
-use Rattle.engine.proofs.Assembly.{run-tasks, apart}
+-- The head is found among the run's tasks; the rest of the cursor is the run's (Assembly).
 use borrow.Author.Needs.{needs}
+use Rattle.engine.proofs.Assembly.{run-tasks, apart}
 use Rattle.engine.proofs.cursor_of.Statement.{statement}
 use Rattle.engine.proofs.cursor_of.Tie as tie
-use Rattle.engine.proofs.cursor_of.Reads as reads
-use Rattle.engine.proofs.cursor_of.Lts as lts
-use Rattle.engine.proofs.line.head_of.Reads as head-of-reads
 
 head-of-requires : tie.Need-head-of-requires
 head-of-requires c κs =

@@ -1,17 +1,13 @@
-use native.Mathlib.Omega.{arith}
+-- A drain is a move by the ticks owed.
 use Prim.Native.Nat.{ℕ, _+_}
-use mathlib.Core.Path.{_≡_, ap, _∙_}
-use Rattle.lists.specs.Lists.{total}
+use native.Mathlib.Omega.{arith}
+use mathlib.Core.Path.{ap, _∙_}
+use borrow.Author.Needs.{needs}
 use Rattle.rule.specs.Calls.{moved}
 use Rattle.engine.specs.Parts.{parts}
 use Rattle.engine.proofs.Walks.{drained-moved}
-use borrow.Author.Needs.{needs}
 use Rattle.engine.proofs.drain_on.Statement.{statement}
 use Rattle.engine.proofs.drain_on.Tie as tie
-use Rattle.engine.proofs.drain_on.Reads as reads
-use Rattle.engine.proofs.drain_on.Lts as lts
-use Rattle.engine.proofs.total_of.Reads as total-of-reads
-use Rattle.engine.proofs.walk.Reads as walk-reads
 
 total-of-requires : tie.Need-total-of-requires
 total-of-requires c κs = search needs

@@ -1,19 +1,16 @@
-use native.Mathlib.Omega.{arith}
+-- Invariant: what is done next from here on is done next from the start on (Waits). Measure: the ticks left.
 use Prim.Native.Nat.{ℕ, _+_, _-_, _<_, _≤_}
+use native.Mathlib.Omega.{arith}
 use mathlib.Core.Path.{_≡_, ap}
 use mathlib.Core.List.{List}
 use lib.ListN.{set}
 use Rattle.lists.specs.Lists.{at, total}
 use Rattle.laws.specs.Sound.{Sound}
 use Rattle.engine.specs.Parts.{parts}
-use Rattle.engine.proofs.Legs.{ready, leg-known, leg-owes}
+use Rattle.engine.proofs.Legs.{ready, leg-known}
 use Rattle.engine.proofs.Waits.{Waits, waits-start, waits-time, waits-end, waits-step, waits-less}
 use Rattle.engine.proofs.soonest.Statement.{statement}
 use Rattle.engine.proofs.soonest.Tie as tie
-use Rattle.engine.proofs.soonest.Reads as reads
-use Rattle.engine.proofs.soonest.Lts as lts
-use Rattle.engine.proofs.steps.next_leg.Reads as next-leg-reads
-use Rattle.engine.proofs.steps.served.Reads as served-reads
 
 abbrev Inv-loop : tie.InvT-loop
 Inv-loop s queue owed left₀ c₀ left c =
@@ -26,7 +23,8 @@ abbrev μ-loop : tie.MeasureT-loop
 waits : (c : tie.At-loop Inv-loop μ-loop)
     → let s = c .before .before in
     let O = s .pre .1 .0 in
-    Waits (parts (s .args .s) (s .args .from) (s .args .queue .now) (s .args .owed .now) (O .given) (O .done)) (s .args .s)
+    let a = s .args in
+    Waits (parts (a .s) (a .from) (a .queue .now) (a .owed .now) (O .given) (O .done)) (a .s)
     (c .loop .c) (s .args .queue .now) (c .loop .left) (O .done)
 waits c = let O = c .before .before .pre .1 .0 in c .loop .inv (O .given) (O .done) (O .sound)
 
@@ -57,7 +55,7 @@ module _ (c : tie.After-next-leg Inv-loop μ-loop) where
 loop-holds : tie.Need-loop-holds Inv-loop μ-loop
 loop-holds c = λ g d S.
     let s = c .before in
-    waits-start (s .args .s) (s .args .from) (s .args .queue .now) (s .args .owed .now) g d (s .pre .0) (s .pre .1 .1 .0) (s .pre .1 .1 .1) S
+    waits-start _ _ _ (s .args .owed .now) g d (s .pre .0) (s .pre .1 .1 .0) (s .pre .1 .1 .1) S
 
 next-leg-requires : tie.Need-next-leg-requires Inv-loop μ-loop
 next-leg-requires c κs =
@@ -73,7 +71,8 @@ add-t14 c = omega (arith, time (c .before .before .before .before .before .befor
 returns : tie.Need-returns Inv-loop μ-loop
 returns c = λ g d S.
     let l = c .before .before .before .before .before .before in
-    waits-end _ _ _ _ _ _ (l .before .before .loop .inv g d S) _ _ (l .next-leg .ensures) (c .before .before .before .if1 .taken)
+    waits-end _ _ _ _ _ _ (l .before .before .loop .inv g d S) _ _ (l .next-leg .ensures)
+    (c .before .before .before .if1 .taken)
 
 cast-i : tie.Need-cast-i Inv-loop μ-loop
 cast-i c = omega (arith, known (c .before .before .before .before))
@@ -96,13 +95,16 @@ loop-less : tie.Need-loop-less Inv-loop μ-loop
 loop-less c =
     let l = c .before .before .before .before .before .before in
     let m = more l (c .before .before .before .if1 .left) in
-    omega (arith, l .next-leg .ensures .once .some, waits-less _ _ _ _ _ _ (waits (l .before .before)) _ _ (l .next-leg .ensures) _ _ m (c .served .ensures) (stored l))
+    let W = waits (l .before .before) in
+    let L = l .next-leg .ensures in
+    omega (arith, L .once .some, waits-less _ _ _ _ _ _ W _ _ L _ _ m (c .served .ensures) (stored l))
 
 loop-again : tie.Need-loop-again Inv-loop μ-loop
 loop-again c = λ g d S.
     let l = c .before .before .before .before .before .before in
     let m = more l (c .before .before .before .if1 .left) in
-    waits-step _ _ _ _ _ _ (l .before .before .loop .inv g d S) _ _ (l .next-leg .ensures) _ _ m (c .served .ensures) (stored l)
+    let W = l .before .before .loop .inv g d S in
+    waits-step _ _ _ _ _ _ W _ _ (l .next-leg .ensures) _ _ m (c .served .ensures) (stored l)
 
 pub soonest-spec : {M : Type 1} → statement M
 soonest-spec =

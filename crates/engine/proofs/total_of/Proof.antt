@@ -1,15 +1,14 @@
-use borrow.Author.Needs.{needs}
+-- Invariant: the sum of the entries passed. Measure: the entries left.
+use Prim.Native.Nat.{_+_, _-_, _≤_}
 use native.Mathlib.Omega.{arith}
-use Prim.Native.Nat.{ℕ, _+_, _-_, _≤_}
 use mathlib.Core.Path.{_≡_, refl, ap, _∙_}
-use lib.ListN.{length, take}
+use lib.ListN.{take}
 use lib.Seq.{take-all}
+use borrow.Author.Needs.{needs}
 use Rattle.lists.specs.Lists.{total}
 use Rattle.lists.proofs.Totals.{total-split, total-take}
 use Rattle.engine.proofs.total_of.Statement.{statement}
 use Rattle.engine.proofs.total_of.Tie as tie
-use Rattle.engine.proofs.total_of.Reads as reads
-use Rattle.engine.proofs.total_of.Lts as lts
 
 abbrev Inv-loop : tie.InvT-loop
 Inv-loop owed sum₀ k₀ sum k = (k ≤ 32) × (sum ≡ total (take k owed))
@@ -44,7 +43,8 @@ loop-again : tie.Need-loop-again Inv-loop μ-loop
 loop-again c =
     let s = c .before .before .before in
     let k = c .before .before .loop .k in
-    (omega arith, omega (arith, c .before .before .loop .inv .1, total-take k (s .args .owed .now) (omega (arith, s .pre .0))))
+    let i = c .before .before .loop .inv in
+    (omega arith, omega (arith, i .1, total-take k (s .args .owed .now) (omega (arith, s .pre .0))))
 
 returns : tie.Need-returns Inv-loop μ-loop
 returns c =

@@ -1,12 +1,10 @@
-use native.Mathlib.Omega.{arith}
+-- Invariant: the parts stand for the state that comes of the first by ticks (Walks). Measure: the ticks to the time.
 use Prim.Native.Nat.{_-_}
+use native.Mathlib.Omega.{arith}
 use Rattle.engine.specs.Parts.{parts}
 use Rattle.engine.proofs.Walks.{Going, going-start, going-step, going-end}
 use Rattle.engine.proofs.walk.Statement.{statement}
 use Rattle.engine.proofs.walk.Tie as tie
-use Rattle.engine.proofs.walk.Reads as reads
-use Rattle.engine.proofs.walk.Lts as lts
-use Rattle.engine.proofs.steps.step.Reads as step-reads
 
 abbrev Inv-loop : tie.InvT-loop
 Inv-loop s time queue₀ owed₀ given₀ done₀ c₀ queue owed given done c =
@@ -18,7 +16,8 @@ abbrev μ-loop : tie.MeasureT-loop
 loop-holds : tie.Need-loop-holds Inv-loop μ-loop
 loop-holds c =
     let a = c .args in
-    going-start (a .time) (a .s) (parts (a .s) (a .from) (a .queue .now) (a .owed .now) (a .given .now) (a .done .now)) (a .from)
+    let st = parts (a .s) (a .from) (a .queue .now) (a .owed .now) (a .given .now) (a .done .now) in
+    going-start (a .time) (a .s) st (a .from)
     (a .queue .now) (c .pre .0) (c .pre .1 .0) (c .pre .1 .1 .0)
 
 sub-step : tie.Need-sub-step Inv-loop μ-loop

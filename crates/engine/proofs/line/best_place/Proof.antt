@@ -1,19 +1,17 @@
-use borrow.Author.Needs.{needs}
-use native.Mathlib.Omega.{arith}
+-- Invariant: the best of the places passed (Heads). Measure: the places left.
 use Prim.Native.Nat.{ℕ, _+_, _-_, _≤_}
+use native.Mathlib.Omega.{arith}
 use mathlib.Core.Path.{_≡_, refl, sym, _∙_}
 use mathlib.Core.Bool.{cond}
 use mathlib.Core.Logic.{⊎-elim}
 use lib.ListN.{length}
 use lib.Dec.{ltb}
+use borrow.Author.Needs.{needs}
 use borrow.Author.Tests.{lt-ltb, le-ltb}
 use Rattle.lists.proofs.Testing.{cond-true, cond-false}
-use Rattle.engine.proofs.Queues.{Scanned, scanned-step, scanned-end}
+use Rattle.engine.proofs.Heads.{Scanned, scanned-step, scanned-end}
 use Rattle.engine.proofs.line.best_place.Statement.{statement}
 use Rattle.engine.proofs.line.best_place.Tie as tie
-use Rattle.engine.proofs.line.best_place.Reads as reads
-use Rattle.engine.proofs.line.best_place.Lts as lts
-use Rattle.engine.proofs.line.key_of.Reads as key-of-reads
 
 abbrev Inv-loop : tie.InvT-loop
 Inv-loop priority n queue place₀ top₀ k₀ place top k = Scanned priority n queue place top k
@@ -67,7 +65,7 @@ returns : tie.Need-returns Inv-loop μ-loop
 returns c =
     let s = c .before .before .before .before in
     let i = c .before .loop in
-    scanned-end (s .args .priority .now) (s .args .n) (s .args .queue .now) (i .place) (i .top) (i .k) (c .loop-test .left)
+    scanned-end _ _ (s .args .queue .now) (i .place) (i .top) (i .k) (c .loop-test .left)
     (omega (arith, s .pre .0, s .pre .1 .1)) (i .inv)
 
 pub best-place-spec : {M : Type 1} → statement M

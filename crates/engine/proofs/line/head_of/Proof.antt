@@ -1,12 +1,10 @@
+-- By the policy: the best place, or the place itself, or 0 where it is past the end.
 use mathlib.Core.Path.{sym}
-use borrow.Author.Tests.{eq-eqb, ne-eqb, eqb-true, eqb-false, lt-ltb, le-ltb}
-use Rattle.lists.proofs.Testing.{cond-true, cond-false}
+use borrow.Author.Tests.{eqb-true, eqb-false, lt-ltb, le-ltb}
 use borrow.Author.Needs.{needs}
+use Rattle.lists.proofs.Testing.{cond-true, cond-false}
 use Rattle.engine.proofs.line.head_of.Statement.{statement}
 use Rattle.engine.proofs.line.head_of.Tie as tie
-use Rattle.engine.proofs.line.head_of.Reads as reads
-use Rattle.engine.proofs.line.head_of.Lts as lts
-use Rattle.engine.proofs.line.best_place.Reads as best-place-reads
 
 best-place-requires : tie.Need-best-place-requires
 best-place-requires c κs = search needs

@@ -1,18 +1,16 @@
-use native.Mathlib.Omega.{arith}
+-- Of the head and the task that joined, the one with the greater key (Heads).
 use Prim.Native.Nat.{ℕ, _+_, _<_}
-use mathlib.Core.Path.{_≡_, sym, _∙_}
+use native.Mathlib.Omega.{arith}
+use mathlib.Core.Path.{_≡_, sym}
 use mathlib.Core.Bool.{cond}
 use lib.Dec.{ltb}
 use borrow.Author.Tests.{eqb-true, eqb-false, lt-ltb, le-ltb}
-use Rattle.lists.proofs.Testing.{cond-true, cond-false}
-use Rattle.engine.specs.Promises.{Heads}
-use Rattle.engine.proofs.Queues.{heads-inside, best-more}
 use borrow.Author.Needs.{needs}
+use Rattle.lists.proofs.Testing.{cond-true, cond-false}
+use Rattle.engine.specs.Inner.{Heads}
+use Rattle.engine.proofs.Heads.{heads-inside, best-more}
 use Rattle.engine.proofs.line.head_with.Statement.{statement}
 use Rattle.engine.proofs.line.head_with.Tie as tie
-use Rattle.engine.proofs.line.head_with.Reads as reads
-use Rattle.engine.proofs.line.head_with.Lts as lts
-use Rattle.engine.proofs.line.key_of.Reads as key-of-reads
 
 -- the head stands among the tasks and the one more
 below : (s : tie.Start) → s .args .place < s .args .n + 1
@@ -32,7 +30,8 @@ more c r e =
       robin = λ f. absurd (eqb-false _ 1 f (c .before .before .before .before .before .before .before .if1 .left));
       priority = λ f.
           best-more (a .s .priority) (a .queue .now) (a .place) (a .n) r _ _ (omega (arith, s .pre .0, s .pre .1 .1 .0))
-          (s .pre .1 .0) (s .pre .1 .1 .1 .priority f) (c .before .before .before .key-of .ensures) (c .key-of2 .ensures) e;
+          (s .pre .1 .0) (s .pre .1 .1 .1 .priority f) (c .before .before .before .key-of .ensures)
+          (c .key-of2 .ensures) e;
     }
 
 returns : tie.Need-returns
@@ -52,7 +51,9 @@ element-copy-out-key-of-2 : tie.Need-element-copy-out-key-of-2
 element-copy-out-key-of-2 c = search needs
 
 key-of-requires-2 : tie.Need-key-of-requires-2
-key-of-requires-2 c κs = let s = c .before .before .before .before .before .before .before .before in s .pre .1 .0 (s .args .n)
+key-of-requires-2 c κs =
+    let s = c .before .before .before .before .before .before .before .before in
+    s .pre .1 .0 (s .args .n)
 
 returns-2 : tie.Need-returns-2
 returns-2 c = more (c .before) _ (sym (cond-true _ _ (lt-ltb _ _ (c .if2 .taken))))

@@ -1,16 +1,15 @@
-use borrow.Author.Needs.{needs}
-use native.Mathlib.Omega.{arith}
+-- Invariant: the first k entries are copied. Measure: the entries left.
 use Prim.Native.Nat.{ℕ, _+_, _-_, _≤_}
+use native.Mathlib.Omega.{arith}
 use mathlib.Core.Path.{_≡_, ap, _∙_}
 use mathlib.Core.List.{List}
 use lib.ListN.{length, drop, set}
 use lib.Seq.{paste, paste-zero}
+use borrow.Author.Needs.{needs}
 use Rattle.lists.specs.Lists.{at}
 use Rattle.lists.proofs.Places.{paste-next}
 use Rattle.engine.proofs.line.put.Statement.{statement}
 use Rattle.engine.proofs.line.put.Tie as tie
-use Rattle.engine.proofs.line.put.Reads as reads
-use Rattle.engine.proofs.line.put.Lts as lts
 
 abbrev Inv-loop : tie.InvT-loop
 Inv-loop at from count q next₀ k₀ next k = (k ≤ count) × (next ≡ paste next₀ at (drop from q) k)

@@ -1,17 +1,15 @@
+-- The ring is straight, or it is two copies (Rings).
+use Prim.Native.Nat.{ℕ, _-_}
 use native.Mathlib.Omega.{arith}
 use mathlib.Core.Path.{_≡_, sym, ap, _∙_}
-use Prim.Native.Nat.{ℕ, _-_}
 use mathlib.Core.List.{List, _++_}
 use lib.ListN.{length, drop}
 use lib.Seq.{paste}
+use borrow.Author.Needs.{needs}
 use Rattle.engine.specs.Parts.{ring}
 use Rattle.engine.proofs.Rings.{straight-zero, straight-paste}
-use borrow.Author.Needs.{needs}
 use Rattle.engine.proofs.line.straight.Statement.{statement}
 use Rattle.engine.proofs.line.straight.Tie as tie
-use Rattle.engine.proofs.line.straight.Reads as reads
-use Rattle.engine.proofs.line.straight.Lts as lts
-use Rattle.engine.proofs.line.put.Reads as put-reads
 
 returns : tie.Need-returns
 returns c =

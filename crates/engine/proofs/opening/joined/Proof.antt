@@ -1,15 +1,12 @@
-use native.Mathlib.Omega.{arith}
+-- The queue is put straight, the task stored behind it, and the head compared with the task (Joining).
 use Prim.Native.Nat.{_<_}
+use native.Mathlib.Omega.{arith}
 use mathlib.Core.Path.{_≡_}
 use lib.ListN.{length-set}
-use Rattle.engine.proofs.Joining.{straight-queued, straight-whole, straight-tasks, straight-heads, joined-opens}
 use borrow.Author.Needs.{needs}
+use Rattle.engine.proofs.Joining.{straight-queued, straight-whole, straight-tasks, straight-heads, joined-opens}
 use Rattle.engine.proofs.opening.joined.Statement.{statement}
 use Rattle.engine.proofs.opening.joined.Tie as tie
-use Rattle.engine.proofs.opening.joined.Reads as reads
-use Rattle.engine.proofs.opening.joined.Lts as lts
-use Rattle.engine.proofs.line.head_with.Reads as head-with-reads
-use Rattle.engine.proofs.opening.straightened.Reads as straightened-reads
 
 -- the queue is as long as it was
 same : (c : tie.After-straightened) → c .straightened .result .queued ≡ c .before .before .args .c .queued
@@ -40,7 +37,8 @@ head-with-requires c κs =
       rw length-set (straight-whole (a .s) (a .c) (a .queue .now) K _ (e .1)),
       (
         rw (same p)
-            (straight-tasks (a .s) (a .c) (a .queue .now) K _ (e .1) (a .task) (s .pre .1 .0) (s .pre .1 .1 .1) (s .pre .1 .1 .0)),
+            (straight-tasks (a .s) (a .c) (a .queue .now) K _ (e .1) (a .task) (s .pre .1 .0) (s .pre .1 .1 .1)
+            (s .pre .1 .1 .0)),
         (room p, straight-heads (a .s) (a .c) (a .queue .now) K _ (e .1) (p .straightened .result) (a .task) (e .0)),
       ),
     )

@@ -1,17 +1,14 @@
-use native.Mathlib.Omega.{arith}
-use mathlib.Core.Path.{_≡_, refl, sym, ap, _∙_}
+-- Under priority nothing moves; under round robin the ring is put straight.
 use Prim.Native.Nat.{ℕ}
+use mathlib.Core.Path.{sym, ap, _∙_}
 use mathlib.Core.List.{List, _++_}
 use lib.ListN.{drop, take-append-drop}
 use borrow.Author.Tests.{eq-eqb, ne-eqb}
+use borrow.Author.Needs.{needs}
 use Rattle.engine.specs.Parts.{straightTo}
 use Rattle.engine.proofs.Queues.{queueAt-priority, queueAt-robin}
-use borrow.Author.Needs.{needs}
 use Rattle.engine.proofs.opening.straightened.Statement.{statement}
 use Rattle.engine.proofs.opening.straightened.Tie as tie
-use Rattle.engine.proofs.opening.straightened.Reads as reads
-use Rattle.engine.proofs.opening.straightened.Lts as lts
-use Rattle.engine.proofs.line.straight.Reads as straight-reads
 
 returns : tie.Need-returns
 unfolding straightTo

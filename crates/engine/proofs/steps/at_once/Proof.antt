@@ -1,11 +1,9 @@
+-- The least of what is owed, asked for and left of the slice.
 use native.Mathlib.Omega.{arith}
 use borrow.Author.Tests.{eqb-false, ne-eqb}
 use borrow.Author.Needs.{needs}
 use Rattle.engine.proofs.steps.at_once.Statement.{statement}
 use Rattle.engine.proofs.steps.at_once.Tie as tie
-use Rattle.engine.proofs.steps.at_once.Reads as reads
-use Rattle.engine.proofs.steps.at_once.Lts as lts
-use Rattle.engine.proofs.steps.least.Reads as least-reads
 
 least-requires : tie.Need-least-requires
 least-requires c κs = search needs

@@ -1,14 +1,10 @@
+-- The array without the task still holds tasks, so the head can be looked for in it.
 use native.Mathlib.Omega.{arith}
-use mathlib.Core.Path.{_∙_, ap}
-use lib.ListN.{length}
-use Rattle.engine.proofs.Rings.{takenOut-length, takenOut-below}
+use mathlib.Core.Path.{_∙_}
 use borrow.Author.Needs.{needs}
+use Rattle.engine.proofs.Rings.{takenOut-length, takenOut-below}
 use Rattle.engine.proofs.steps.finished.Statement.{statement}
 use Rattle.engine.proofs.steps.finished.Tie as tie
-use Rattle.engine.proofs.steps.finished.Reads as reads
-use Rattle.engine.proofs.steps.finished.Lts as lts
-use Rattle.engine.proofs.line.head_of.Reads as head-of-reads
-use Rattle.engine.proofs.line.take_out.Reads as take-out-reads
 
 add-clock : tie.Need-add-clock
 add-clock c = search needs

@@ -1,18 +1,14 @@
-use native.Mathlib.Omega.{arith}
+-- After the turn the head stands in the queue, so its task is owed ticks.
 use Prim.Native.Nat.{_<_}
-use mathlib.Core.Path.{_≡_, refl, ap, _∙_}
+use native.Mathlib.Omega.{arith}
+use mathlib.Core.Path.{refl}
+use borrow.Author.Needs.{needs}
 use Rattle.lists.specs.Lists.{at}
 use Rattle.lists.proofs.Totals.{at-inside}
-use Rattle.engine.specs.declared.Cursor.{Cursor}
 use Rattle.engine.proofs.Turns.{turned-some, turned-room}
 use Rattle.engine.proofs.Legs.{ready-owes}
-use borrow.Author.Needs.{needs}
 use Rattle.engine.proofs.steps.next_leg.Statement.{statement}
 use Rattle.engine.proofs.steps.next_leg.Tie as tie
-use Rattle.engine.proofs.steps.next_leg.Reads as reads
-use Rattle.engine.proofs.steps.next_leg.Lts as lts
-use Rattle.engine.proofs.steps.at_once.Reads as at-once-reads
-use Rattle.engine.proofs.steps.turned.Reads as turned-reads
 
 -- after the turn the head stands in the queue, and its task is owed ticks
 some : (c : tie.After-turned) → c .turned .result .head < c .before .args .c .queued
@@ -21,7 +17,8 @@ some c =
     rw (c .turned .ensures)
     (turned-some (s .args .s) (s .args .c) (s .args .queue .now) (s .pre .0 .kept) (s .pre .0 .some))
 
-owes : (c : tie.After-turned) → 0 < at (c .before .args .owed .now) (at (c .before .args .queue .now) (c .turned .result .head))
+owes : (c : tie.After-turned)
+    → 0 < at (c .before .args .owed .now) (at (c .before .args .queue .now) (c .turned .result .head))
 owes c =
     let s = c .before in
     ready-owes (s .args .s) (s .args .c) (s .args .queue .now) (s .args .owed .now) (s .pre .0) _ (some c)

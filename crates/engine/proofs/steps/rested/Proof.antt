@@ -1,10 +1,9 @@
+-- By the definition.
 use mathlib.Core.Path.{refl}
-use Rattle.engine.specs.Parts.{restedTo}
 use borrow.Author.Needs.{needs}
+use Rattle.engine.specs.Parts.{restedTo}
 use Rattle.engine.proofs.steps.rested.Statement.{statement}
 use Rattle.engine.proofs.steps.rested.Tie as tie
-use Rattle.engine.proofs.steps.rested.Reads as reads
-use Rattle.engine.proofs.steps.rested.Lts as lts
 
 add-t3 : tie.Need-add-t3
 add-t3 c = search needs

@@ -1,10 +1,8 @@
-use Rattle.engine.specs.Parts.{servedTo}
+-- By the definition, and that of the used count.
 use borrow.Author.Needs.{needs}
+use Rattle.engine.specs.Parts.{servedTo}
 use Rattle.engine.proofs.steps.served.Statement.{statement}
 use Rattle.engine.proofs.steps.served.Tie as tie
-use Rattle.engine.proofs.steps.served.Reads as reads
-use Rattle.engine.proofs.steps.served.Lts as lts
-use Rattle.engine.proofs.steps.used_more.Reads as used-more-reads
 
 add-t4 : tie.Need-add-t4
 add-t4 c = search needs

@@ -1,40 +1,34 @@
-use native.Mathlib.Omega.{arith}
+-- Idle ticks, a row of ticks that finishes its task, or one that does not: each is a law of Legs.
 use Prim.Native.Nat.{_+_, _<_, _≤_, _^_}
-use mathlib.Core.Path.{_≡_, sym, _∙_}
-use mathlib.Core.List.{List}
-use Rattle.rule.specs.declared.Setup.{Setup}
+use native.Mathlib.Omega.{arith}
+use mathlib.Core.Path.{sym, _∙_}
+use borrow.Author.Needs.{needs}
+use Rattle.lists.specs.Lists.{at}
 use Rattle.laws.specs.Sound.{Sound}
 use Rattle.engine.specs.Parts.{parts, Kept}
-use Rattle.engine.specs.Promises.{Leads}
-use Rattle.engine.specs.declared.Cursor.{Cursor}
-use Rattle.engine.specs.declared.steps.Leg.{Leg}
-use Rattle.engine.proofs.Legs.{ready, kept-tasks, rested-stepped, leg-known, leg-owes, leg-gives, leg-clock, leg-kept, leg-some, finished-stepped, served-stepped}
-use borrow.Author.Needs.{needs}
+use Rattle.engine.specs.Inner.{Leads}
+use Rattle.engine.proofs.Legs.{ready, kept-tasks, leg-known, leg-owes, leg-gives, leg-clock, leg-kept, leg-some}
+use Rattle.engine.proofs.Legs.{rested-stepped, finished-stepped, served-stepped}
 use Rattle.engine.proofs.steps.step.Statement.{statement}
 use Rattle.engine.proofs.steps.step.Tie as tie
-use Rattle.engine.proofs.steps.step.Reads as reads
-use Rattle.engine.proofs.steps.step.Lts as lts
-use Rattle.engine.proofs.steps.finished.Reads as finished-reads
-use Rattle.engine.proofs.steps.given_to.Reads as given-to-reads
-use Rattle.engine.proofs.steps.next_leg.Reads as next-leg-reads
-use Rattle.engine.proofs.steps.rested.Reads as rested-reads
-use Rattle.engine.proofs.steps.served.Reads as served-reads
 
 -- what is known once the next row of ticks is
 module _ (c : tie.After-next-leg) where
   abbrev start : tie.Start
   start = c .before .before .before .before .before
 
-  kept : Kept (start .args .s) (start .args .c) (start .args .queue .now)
+  kept : let a = start .args in Kept (a .s) (a .c) (a .queue .now)
   kept = start .pre .0
 
-  sound : Sound (parts (start .args .s) (start .args .c) (start .args .queue .now) (start .args .owed .now) (start .args .given .now) (start .args .done .now))
+  sound : let a = start .args in
+      Sound (parts (a .s) (a .c) (a .queue .now) (a .owed .now) (a .given .now) (a .done .now))
   sound = start .pre .1 .0
 
   some : 0 < start .args .c .queued
   some = omega (arith, c .before .before .before .if1 .left)
 
-  leads : Leads (start .args .s) (start .args .c) (start .args .limit) (start .args .queue .now) (start .args .owed .now) (c .next-leg .result)
+  leads : let a = start .args in
+      Leads (a .s) (a .c) (a .limit) (a .queue .now) (a .owed .now) (c .next-leg .result)
   leads = c .next-leg .ensures
 
   known : c .next-leg .result .task < 32
@@ -43,6 +37,14 @@ module _ (c : tie.After-next-leg) where
   time : c .next-leg .result .cursor .clock + c .next-leg .result .n < 2 ^ 32
   time = omega (arith, leads .once .asked, start .pre .1 .1 .1, leg-clock _ _ _ _ _ _ kept sound some _ _ leads)
 
+  owes : c .next-leg .result .n ≤ at (start .args .owed .now) (c .next-leg .result .task)
+  owes = leg-owes _ _ _ _ _ _ kept sound some _ _ leads
+
+  gives : at (start .args .given .now) (c .next-leg .result .task) + c .next-leg .result .n < 2 ^ 32
+  gives =
+      let clock = leg-clock _ _ _ _ _ _ kept sound some _ _ leads in
+      leg-gives _ _ _ _ _ _ kept sound some _ _ leads (omega (arith, time, clock))
+
 rested-requires : tie.Need-rested-requires
 rested-requires c κs = search needs
 
@@ -50,7 +52,8 @@ returns : tie.Need-returns
 returns c =
     let s = c .before .before .before in
     let a = s .args in
-    rested-stepped (a .s) (a .c) (a .queue .now) (a .owed .now) (a .given .now) (a .done .now) (s .pre .0) (s .pre .1 .0)
+    rested-stepped (a .s) (a .c) (a .queue .now) (a .owed .now) (a .given .now) (a .done .now) (s .pre .0)
+    (s .pre .1 .0)
     (a .limit) (c .rested .result) (c .before .if1 .taken) (s .pre .1 .1 .0) (c .rested .ensures)
 
 next-leg-requires : tie.Need-next-leg-requires
@@ -65,7 +68,7 @@ next-leg-requires c κs =
 given-to-requires : tie.Need-given-to-requires
 given-to-requires c κs =
     let l = c .before .before in
-    (known l, (leg-owes _ _ _ _ _ _ (kept l) (sound l) (some l) _ _ (leads l), leg-gives _ _ _ _ _ _ (kept l) (sound l) (some l) _ _ (leads l) (omega (arith, time l))))
+    (known l, (owes l, gives l))
 
 finished-requires : tie.Need-finished-requires
 finished-requires c κs =
@@ -84,7 +87,8 @@ returns-2 : tie.Need-returns-2
 returns-2 c =
     let l = c .before .before .before .before .before .before .before .before .before in
     let w = c .before .before .before .before .before .before .given-to .ensures in
-    finished-stepped _ _ _ _ _ _ (kept l) (sound l) (some l) _ _ (leads l) (c .finished .result) _ _ (c .finished .ensures) _ _
+    finished-stepped _ _ _ _ _ _ (kept l) (sound l) (some l) _ _ (leads l) (c .finished .result) _ _
+    (c .finished .ensures) _ _
     (sym (leads l .owes) ∙ c .before .before .before .if2 .taken) (w .0) (w .1)
 
 served-requires : tie.Need-served-requires

@@ -1,10 +1,9 @@
+-- Each return is a case of the definition's tests.
 use borrow.Author.Tests.{eq-eqb, ne-eqb}
-use Rattle.engine.specs.Parts.{turnedTo}
 use borrow.Author.Needs.{needs}
+use Rattle.engine.specs.Parts.{turnedTo}
 use Rattle.engine.proofs.steps.turned.Statement.{statement}
 use Rattle.engine.proofs.steps.turned.Tie as tie
-use Rattle.engine.proofs.steps.turned.Reads as reads
-use Rattle.engine.proofs.steps.turned.Lts as lts
 
 returns : tie.Need-returns
 unfolding turnedTo

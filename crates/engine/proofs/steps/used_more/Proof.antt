@@ -1,10 +1,9 @@
+-- Each return is a case of the definition's test.
 use native.Mathlib.Omega.{arith}
 use borrow.Author.Tests.{eq-eqb, ne-eqb}
 use Rattle.rule.specs.Tick.{usedMore}
 use Rattle.engine.proofs.steps.used_more.Statement.{statement}
 use Rattle.engine.proofs.steps.used_more.Tie as tie
-use Rattle.engine.proofs.steps.used_more.Reads as reads
-use Rattle.engine.proofs.steps.used_more.Lts as lts
 
 add-result : tie.Need-add-result
 add-result c = omega (arith, c .before .before .pre (ne-eqb _ 1 (c .if1 .left)))
