@@ -1,0 +1,17 @@
+-- `desk::ticks_read` meets its contract, case by case. Assumes nothing.
+use mathlib.Core.Path.{sym, ap}
+use borrow.Author.Needs.{needs}
+use Rattle.replay.specs.Answers.{ticksTold}
+use Rattle.replay.specs.declared.readings.TaskTicks.{TaskTicks}
+use Rattle.desk.specs.Face.{readFace}
+use Rattle.desk.proofs.ticks_read.Statement.{statement}
+use Rattle.desk.proofs.ticks_read.Tie as tie
+
+returns : tie.Need-returns
+returns c = sym (ap (λ (x : TaskTicks). readFace (ticksTold x)) (c .before .ticks .given .1))
+
+returns-2 : tie.Need-returns-2
+returns-2 c = sym (ap (λ (x : TaskTicks). readFace (ticksTold x)) (c .enum-told .given .1))
+
+pub ticks-read-spec : {M : Type 1} → statement M
+ticks-read-spec = tie.close (tie.spec (λ c. search needs) (λ c. search needs) returns returns-2)
