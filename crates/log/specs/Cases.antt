@@ -1,8 +1,6 @@
--- Logs worked by hand, as one list of cases: each has what the definitions give beside what is said of it, and a
--- changed
--- number, comparison or order changes a case. In order: blocks from words; lengths; the check; places; layout; the
--- order
--- of refusals; proofs/Computed.antt computes them all. Assumes nothing.
+-- Logs worked by hand, as one list of cases: each has what the definitions give beside what is said of it, and a changed
+-- number, comparison or order changes a case. In order: blocks from words; lengths; the check; places.
+-- proofs/Computed.antt computes them all. Assumes nothing.
 use Prim.Native.Nat.{ℕ, _+_, _*_, _-_, _/_, _%_}
 use mathlib.Core.Bool.{Bool, true, false}
 use mathlib.Core.List.{List, [], _∷_, _++_}

@@ -1,3 +1,4 @@
 pub mod Filling
 pub mod Reporting
 pub mod Logs
+pub mod Computed

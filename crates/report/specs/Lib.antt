@@ -1,2 +1,3 @@
 pub mod Report
+pub mod Cases
 pub mod Filled
