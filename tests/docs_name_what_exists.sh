@@ -13,7 +13,7 @@ lost=$(find README.md docs -name '*.md' -exec grep -oh '`[^` ]*`' {} + 2>/dev/nu
         [ -e "crates/$w" ] && continue
         find crates -name "$w.edit" -o -name "$w.antt" | grep -q . && continue
         grep -qxF -- "$w" "$words" && continue
-        grep -rqwF -- "$w" crates tests --include='*.rt' --include='*.antt' --include='*.rs' --include='*.sh' && continue
+        grep -rqwF --include='*.rt' --include='*.antt' --include='*.rs' --include='*.sh' -- "$w" crates tests && continue
         printf '%s\n' "$w"
     done)
 [ -z "$lost" ] && { echo "docs: every name exists"; exit 0; }
