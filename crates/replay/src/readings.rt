@@ -46,8 +46,8 @@ pub fn total_owed(run: Run) -> u32
     requires { ⌜ MadeRun run ⌝ }
     ensures { λ r. ⌜ r ≡ total (view run .owed) ⌝ }
 {
-    let owed = run.owed;
-    engine::total_of(&owed)
+    let all = run.owed;
+    engine::total_of(&all)
 }
 
 // A task's entry of a column, refused where the task is not counted.
