@@ -1,0 +1,20 @@
+#!/bin/sh
+# Builds the callers in examples/ over target/staticlib/libdesk.a, runs them, and compares what they write with the stored
+# output. The header is compiled as C11 and as C++ with all warnings as errors.
+cd "$(dirname "$0")/.." || exit 2
+made=$(mktemp -d) || exit 2
+trap 'rm -rf "$made"' EXIT
+library=target/staticlib/libdesk.a
+fail() { echo "examples: $*"; exit 1; }
+gcc -Wall -Wextra -Werror -std=c11 -Iinclude -fsyntax-only -x c include/anduri.h || fail "the header is not C11"
+g++ -Wall -Wextra -Werror -Iinclude -fsyntax-only -x c++ include/anduri.h || fail "the header is not C++"
+gcc -Wall -Wextra -Werror -std=c11 -Iinclude examples/follow_a_run.c "$library" -o "$made/c" || fail "follow_a_run.c"
+rustc --edition 2021 examples/run_a_table.rs -L target/staticlib -l static=desk -o "$made/rust" || fail "run_a_table.rs"
+gcc -shared -o "$made/libanduri.so" -Wl,--whole-archive "$library" -Wl,--no-whole-archive || fail "the shared library"
+"$made/c" >"$made/c.out" && cmp "$made/c.out" examples/follow_a_run.out || fail "follow_a_run.c"
+"$made/rust" >"$made/rust.out" && cmp "$made/rust.out" examples/run_a_table.out || fail "run_a_table.rs"
+python3 examples/read_a_log.py "$made/libanduri.so" examples/case_a.log >"$made/python.out" &&
+    cmp "$made/python.out" examples/read_a_log.out || fail "read_a_log.py"
+./replay >"$made/replay.out" && cmp "$made/replay.out" examples/case_a.out || fail "./replay"
+! ./replay "$made/none" 2>"$made/none.err" && grep -q 'there is no file' "$made/none.err" || fail "./replay and no file"
+echo "examples: each writes what is stored"
