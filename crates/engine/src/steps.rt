@@ -4,13 +4,14 @@ use crate::Cursor;
 use crate::line;
 use rule::Setup;
 ghost use mathlib.Core.Path.{_≡_};
+ghost use mathlib.Core.Bool.{true};
 ghost use Prim.Native.Nat.{ℕ, _+_, _-_, _≤_, _<_, _^_};
 ghost use lib.ListN.{set};
 ghost use Rattle.lists.specs.Lists.{at};
 ghost use Rattle.rule.specs.Tick.{usedMore};
 ghost use Rattle.laws.specs.Sound.{Sound};
 ghost use Rattle.engine.specs.Parts.{parts, Kept, turnedTo, servedTo, restedTo};
-ghost use Rattle.engine.specs.Inner.{Tasks, Room, Ready, AtOnce, Leads, Finished, Stepped};
+ghost use Rattle.engine.specs.Inner.{Tasks, Room, Ready, AtOnce, Leads, Finished, Stepped, SliceDue};
 
 // A head whose slice is used up moves to the back.
 fn turned(s: Setup, c: Cursor) -> Cursor
@@ -177,7 +178,7 @@ fn rested(c: Cursor, n: u32) -> Cursor
 }
 
 // Some ticks later, at least one and at most limit: idle ones, or a row of ticks to one task.
-pub fn step(
+fn any_step(
     s: Setup,
     c: Cursor,
     limit: u32,
@@ -204,4 +205,49 @@ pub fn step(
         return finished(s, ready, leg.task, leg.n, queue, done);
     }
     served(s, ready, leg.n)
+}
+
+// Whether a turn comes, to which the limit leaves a whole slice.
+fn slice_due(s: Setup, c: Cursor, limit: u32) -> bool
+    ensures { λ r. ⌜ (r ≡ true → SliceDue s c limit) ⌝ }
+{
+    if s.policy == 1 {
+        return false;
+    }
+    if c.used != s.slice {
+        return false;
+    }
+    if limit < s.slice {
+        return false;
+    }
+    0 < c.queued
+}
+
+// A step. Nearly all steps under round robin give a whole slice to a task that is owed more; judged first and apart,
+// such a step takes half of the instructions.
+pub fn step(
+    s: Setup,
+    c: Cursor,
+    limit: u32,
+    queue: &mut [u8; 32],
+    owed: &mut [u32; 32],
+    given: &mut [u32; 32],
+    done: &mut [u32; 32],
+) -> Cursor
+    requires { ⌜ Kept s c (now queue) ⌝ }
+    requires { ⌜ Sound (parts s c (now queue) (now owed) (now given) (now done)) ⌝ }
+    requires { ⌜ 0 < limit ⌝ }
+    requires { ⌜ c .clock + limit ≤ 4_032_000_000 ⌝ }
+    ensures { λ r. ⌜ Stepped s r (now (queue .exit)) limit
+        (parts s c (now (queue .entry)) (now (owed .entry)) (now (given .entry)) (now (done .entry)))
+        (parts s r (now (queue .exit)) (now (owed .exit)) (now (given .exit)) (now (done .exit))) ⌝ }
+{
+    if slice_due(s, c, limit) {
+        let leg = next_leg(s, c, s.slice, queue, owed);
+        if leg.n < leg.owed {
+            given_to(leg, owed, given);
+            return served(s, leg.cursor, leg.n);
+        }
+    }
+    any_step(s, c, limit, queue, owed, given, done)
 }

@@ -1,18 +1,15 @@
--- Idle ticks, a row of ticks that finishes its task, or one that does not: each is a law of Legs.
+-- A whole slice is a row of ticks that ends before the task is done (Legs); all else is any step.
 use Prim.Native.Nat.{_+_, _<_, _≤_, _^_}
 use native.Mathlib.Omega.{arith}
-use mathlib.Core.Path.{sym, _∙_}
 use borrow.Author.Needs.{needs}
-use Rattle.lists.specs.Lists.{at}
 use Rattle.laws.specs.Sound.{Sound}
 use Rattle.engine.specs.Parts.{parts, Kept}
-use Rattle.engine.specs.Inner.{Leads}
-use Rattle.engine.proofs.Legs.{ready, kept-tasks, leg-known, leg-owes, leg-gives, leg-clock, leg-kept, leg-some}
-use Rattle.engine.proofs.Legs.{rested-stepped, finished-stepped, served-stepped}
+use Rattle.engine.specs.Inner.{Leads, SliceDue}
+use Rattle.engine.proofs.Legs.{ready, leg-known, leg-owes, leg-gives, leg-clock, served-stepped, stepped-sooner}
 use Rattle.engine.proofs.steps.step.Statement.{statement}
 use Rattle.engine.proofs.steps.step.Tie as tie
 
--- what is known once the next row of ticks is
+-- what is known once the row of ticks is
 module _ (c : tie.After-next-leg) where
   abbrev start : tie.Start
   start = c .before .before .before .before .before
@@ -24,94 +21,65 @@ module _ (c : tie.After-next-leg) where
       Sound (parts (a .s) (a .c) (a .queue .now) (a .owed .now) (a .given .now) (a .done .now))
   sound = start .pre .1 .0
 
-  some : 0 < start .args .c .queued
-  some = omega (arith, c .before .before .before .if1 .left)
+  due : let a = start .args in SliceDue (a .s) (a .c) (a .limit)
+  due = c .before .before .before .before .slice-due .ensures (c .before .before .before .if1 .taken)
 
   leads : let a = start .args in
-      Leads (a .s) (a .c) (a .limit) (a .queue .now) (a .owed .now) (c .next-leg .result)
+      Leads (a .s) (a .c) (a .s .slice) (a .queue .now) (a .owed .now) (c .next-leg .result)
   leads = c .next-leg .ensures
 
-  known : c .next-leg .result .task < 32
-  known = leg-known _ _ _ _ _ _ kept sound some _ _ leads
+  clock : c .next-leg .result .cursor .clock + c .next-leg .result .n < 2 ^ 32
+  clock =
+      let e = leg-clock _ _ _ _ _ _ kept sound (due .some) _ _ leads in
+      omega (arith, leads .once .asked, due .whole, start .pre .1 .1 .1, e)
 
-  time : c .next-leg .result .cursor .clock + c .next-leg .result .n < 2 ^ 32
-  time = omega (arith, leads .once .asked, start .pre .1 .1 .1, leg-clock _ _ _ _ _ _ kept sound some _ _ leads)
-
-  owes : c .next-leg .result .n ≤ at (start .args .owed .now) (c .next-leg .result .task)
-  owes = leg-owes _ _ _ _ _ _ kept sound some _ _ leads
-
-  gives : at (start .args .given .now) (c .next-leg .result .task) + c .next-leg .result .n < 2 ^ 32
-  gives =
-      let clock = leg-clock _ _ _ _ _ _ kept sound some _ _ leads in
-      leg-gives _ _ _ _ _ _ kept sound some _ _ leads (omega (arith, time, clock))
-
-rested-requires : tie.Need-rested-requires
-rested-requires c κs = search needs
-
-returns : tie.Need-returns
-returns c =
-    let s = c .before .before .before in
-    let a = s .args in
-    rested-stepped (a .s) (a .c) (a .queue .now) (a .owed .now) (a .given .now) (a .done .now) (s .pre .0)
-    (s .pre .1 .0)
-    (a .limit) (c .rested .result) (c .before .if1 .taken) (s .pre .1 .1 .0) (c .rested .ensures)
+slice-due-requires : tie.Need-slice-due-requires
+slice-due-requires c κs = search needs
 
 next-leg-requires : tie.Need-next-leg-requires
 next-leg-requires c κs =
     let s = c .before .before .before .before in
-    let a = s .args in (
-      ready (a .s) (a .c) (a .queue .now) (a .owed .now) (a .given .now) (a .done .now) (s .pre .0) (s .pre .1 .0)
-          (omega (arith, c .before .before .if1 .left)),
-      s .pre .1 .1 .0,
-    )
+    let D = c .before .before .before .slice-due .ensures (c .before .before .if1 .taken) in
+    (ready _ _ _ _ _ _ (s .pre .0) (s .pre .1 .0) (D .some), s .pre .1 .0 .sliced (D .robin) .some)
 
 given-to-requires : tie.Need-given-to-requires
 given-to-requires c κs =
-    let l = c .before .before in
-    (known l, (owes l, gives l))
-
-finished-requires : tie.Need-finished-requires
-finished-requires c κs =
-    let l = c .before .before .before .before .before .before .before .before in (
-      time l,
+    let l = c .before .before .before .before in
+    let e = leg-clock _ _ _ _ _ _ (kept l) (sound l) (due l .some) _ _ (leads l) in (
+      leg-known _ _ _ _ _ _ (kept l) (sound l) (due l .some) _ _ (leads l),
       (
-        leg-kept _ _ _ _ _ _ (kept l) (sound l) (some l) _ _ (leads l),
-        (
-          leg-some _ _ _ _ _ _ (kept l) (sound l) (some l) _ _ (leads l),
-          (kept-tasks _ _ _ _ _ _ (kept l) (sound l), known l),
-        ),
+        leg-owes _ _ _ _ _ _ (kept l) (sound l) (due l .some) _ _ (leads l),
+        leg-gives _ _ _ _ _ _ (kept l) (sound l) (due l .some) _ _ (leads l) (omega (arith, clock l, e)),
       ),
     )
 
-returns-2 : tie.Need-returns-2
-returns-2 c =
-    let l = c .before .before .before .before .before .before .before .before .before in
-    let w = c .before .before .before .before .before .before .given-to .ensures in
-    finished-stepped _ _ _ _ _ _ (kept l) (sound l) (some l) _ _ (leads l) (c .finished .result) _ _
-    (c .finished .ensures) _ _
-    (sym (leads l .owes) ∙ c .before .before .before .if2 .taken) (w .0) (w .1)
-
 served-requires : tie.Need-served-requires
 served-requires c κs =
-    let l = c .before .before .before .before .before .before in
-    (time l, leads l .once .sliced)
+    let l = c .before .before .before .before .before in
+    (clock l, leads l .once .sliced)
 
-returns-3 : tie.Need-returns-3
-returns-3 c =
-    let l = c .before .before .before .before .before .before .before in
-    let w = c .before .before .before .before .given-to .ensures in
-    served-stepped _ _ _ _ _ _ (kept l) (sound l) (some l) _ _ (leads l) (c .served .result) _ _
-    (omega (arith, leads l .owes, leads l .once .owes, c .before .if2 .left)) (c .served .ensures) (w .0) (w .1)
+returns : tie.Need-returns
+returns c =
+    let l = c .before .before .before .before .before .before in
+    let w = c .before .given-to .ensures in
+    stepped-sooner _ _ _ _ _ _ _ (due l .whole)
+    (served-stepped _ _ _ _ _ _ (kept l) (sound l) (due l .some) _ _ (leads l) (c .served .result) _ _
+    (omega (arith, leads l .owes, c .before .before .before .before .if2 .taken)) (c .served .ensures) (w .0) (w .1))
+
+any-step-requires : tie.Need-any-step-requires
+any-step-requires c κs = search needs
+
+returns-2 : tie.Need-returns-2
+returns-2 c = search needs
 
 pub step-spec : {M : Type 1} → statement M
 step-spec =
     tie.close
     (tie.spec
-    rested-requires
-    returns
+    slice-due-requires
     next-leg-requires
     given-to-requires
-    finished-requires
-    returns-2
     served-requires
-    returns-3)
+    returns
+    any-step-requires
+    returns-2)
