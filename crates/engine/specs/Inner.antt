@@ -91,7 +91,6 @@ pub record SliceDue (s : Setup) (c : Cursor) (limit : ℕ) : Type 0 where
   pub robin : isPriority s ≡ false
   pub turns : c .used ≡ s .slice
   pub whole : s .slice ≤ limit
-  pub some : 0 < c .queued
 
 -- ---- a task that joins
 

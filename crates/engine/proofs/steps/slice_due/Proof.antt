@@ -1,7 +1,6 @@
 -- Each test that is passed is a field.
-use native.Mathlib.Omega.{arith}
 use mathlib.Core.Bool.{false≢true}
-use borrow.Author.Tests.{ne-eqb, ltb-true}
+use borrow.Author.Tests.{ne-eqb, leb-true}
 use Rattle.engine.proofs.steps.slice_due.Statement.{statement}
 use Rattle.engine.proofs.steps.slice_due.Tie as tie
 
@@ -12,16 +11,12 @@ returns-2 : tie.Need-returns-2
 returns-2 c = λ e. absurd (false≢true e)
 
 returns-3 : tie.Need-returns-3
-returns-3 c = λ e. absurd (false≢true e)
-
-returns-4 : tie.Need-returns-4
-returns-4 c = λ e.
+returns-3 c = λ e.
     record {
-      robin = ne-eqb _ 1 (c .before .before .before .before .before .before .if1 .left);
-      turns = c .before .before .before .if2 .left;
-      whole = omega (arith, c .before .if3 .left);
-      some = ltb-true 0 _ e;
+      robin = ne-eqb _ 1 (c .before .before .before .before .if1 .left);
+      turns = c .before .if2 .left;
+      whole = leb-true _ _ e;
     }
 
 pub slice-due-spec : {M : Type 1} → statement M
-slice-due-spec = tie.close (tie.spec returns returns-2 returns-3 returns-4)
+slice-due-spec = tie.close (tie.spec returns returns-2 returns-3)
