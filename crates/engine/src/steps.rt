@@ -212,7 +212,7 @@ pub fn step(
         return rested(c, limit);
     }
     // Nearly all steps under round robin give a whole slice to a task that is owed more. Judged first and apart, such a
-    // step takes 37 instructions and not 49.
+    // step takes 36 instructions and not 49.
     if slice_due(s, c, limit) {
         let leg = next_leg(s, c, s.slice, queue, owed);
         if leg.n < leg.owed {
