@@ -64,6 +64,12 @@ stepped s r q limit n before after p h K e =
     let d : n ≡ after .clock - before .clock = omega arith in
     record { kept = K; later = omega arith; soon = omega arith; shown = e ∙ ap (λ (k : ℕ). ticks k before) d }
 
+-- a limit that is not smaller
+pub stepped-sooner : (s : Setup) (r : Cursor) (q : List ℕ) (limit more : ℕ) (before after : State) → limit ≤ more
+    → Stepped s r q limit before after → Stepped s r q more before after
+stepped-sooner s r q limit more before after h J =
+    record { kept = J .kept; later = J .later; soon = omega (arith, J .soon); shown = J .shown }
+
 -- ---- the parts of a sound state
 
 module _ (s : Setup) (c : Cursor) (q o g d : List ℕ) (K : Kept s c q) (S : Sound (parts s c q o g d)) where

@@ -86,6 +86,12 @@ pub record Stepped (s : Setup) (r : Cursor) (q : List ℕ) (limit : ℕ) (before
   pub soon : after .clock ≤ before .clock + limit
   pub shown : after ≡ ticks (after .clock - before .clock) before
 
+-- Under round robin a turn comes, and the limit leaves it a whole slice.
+pub record SliceDue (s : Setup) (c : Cursor) (limit : ℕ) : Type 0 where
+  pub robin : isPriority s ≡ false
+  pub turns : c .used ≡ s .slice
+  pub whole : s .slice ≤ limit
+
 -- ---- a task that joins
 
 -- "Request: 10, 11, 12, 13, 14.": the refusals that are judged before the clock moves
