@@ -1,0 +1,6 @@
+pub mod Data
+pub mod Parameters
+mod Passing
+pub mod InPlace
+pub mod Peek
+pub mod Through
