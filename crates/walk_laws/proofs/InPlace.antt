@@ -4,7 +4,7 @@
 --     need h a         what both require of the state h and the parameters' values a
 --     Said h a d       what g ensures of its result d;  Claim h a s h′: what f ensures of its answer s and the state h′ at exit
 --     signature, ended, clauses, function      f's, to which what `rattle check` makes of f computes;  by-value..: g's
---     meets            f meets its contract, from that g does, and that Said gives Claim
+--     thin             f meets its contract, from that g does, and that Said gives Claim
 -- In order: the two functions, what g asks and says, f's exit, the walk, the law. Assumes nothing.
 use Prim.Native.Nat.{ℕ, suc}
 use mathlib.Core.Path.{_≡_, refl, ap, subst⁻¹}
@@ -17,9 +17,12 @@ use mir.Syntax.{call, return, local, valueLocal, Fn}
 use mir.Val.{Val, WT, hasTy, vptr, vstruct, vcons, vnil}
 use base.Logic.{SProp, ent, sep, snd∗, exE, id⊢}
 use base.Fml.{GName, Lft, Share, ftrue, flft, fobs, fbor, fat}
-use prog.Wp.{Heap, Calls, Loops, WpFn, Tables}
+use prog.Wp.{Heap, Calls, Loops, WpFn, Closed, Tables}
 use ghost.Atoms.{Atoms, sem}
 use contract.Monad.{fact}
+use contract.Running.{Running, GhostRules, givenOf, tables}
+use prog.Model.{Model}
+use prog.Routine.{Routine, Env}
 use types.Kit.{Given, ‵, raw, _⊛_, ⋆, some, later, _$_, _∵_, !, qed, by, move, keep, drop, use0, use1, split, join, pick}
 use types.Kit.{rewrite, fsplit, fsplit3, fjoin, fjoin3, feqI, suffices, frame, await, done}
 use types.Run.{look, look-raw, init, store-raw, forget, stop, hop, fld, from, load, of-opd, and-then, assigns, land, returns}
@@ -44,6 +47,7 @@ use denote.Triple.Entry.{onEntry}
 use denote.Triple.Spec.{Meets, tripleOf}
 use denote.Triple.Walked.{says, Stays, stay-ref, hasOf, walkOf, goes-ref, Walks, ends-at, walked, walk-meets}
 use denote.Exit.{yes}
+use Rattle.walk_laws.proofs.Calling.{over}
 use Rattle.walk_laws.proofs.Data.{Data}
 use Rattle.walk_laws.proofs.Parameters.{slots, kept, stay, rows, Values, spells, tell, lists, machine, Known}
 use Rattle.walk_laws.proofs.Parameters.{finals, fits, made, had, goes, across, known-across}
@@ -267,9 +271,25 @@ module _ (T : Declared) (L : LL.Laws T) (ps : List Data) (S : Data) (D : RattleT
           (λ κs qs bounds a _ are.
           walk (κs .0) (qs .0) (a .0 .ptr .0) (a .0 .ptr .1) (a .0 .name) (a .0 .now) (a .1) (are .1) C Λ fm known)
 
-      pub meets : (𝓣 : Tables 𝓤 H) → Triple 𝓤 (𝓣 .C g) (Callee 𝓤 need H A)
+      meets : (𝓣 : Tables 𝓤 H) → Triple 𝓤 (𝓣 .C g) (Callee 𝓤 need H A)
           → Meets 𝓤 H A signature (WpFn 𝓤 H (𝓣 .C) (𝓣 .Λ) (function g)) (closing 𝓤 H A ended (clauses 𝓤 need))
       meets 𝓣 known =
           walk-meets 𝓤 H A ended stayed W (goes-ref 𝓤 H A W 1 0 tt (plain (λ _. R)), goes 1 𝓤 H A W ps) (clauses 𝓤 need)
           (WpFn 𝓤 H (𝓣 .C) (𝓣 .Λ) (function g)) (WpFn-mono 𝓤 H (W .laws) 𝓣 (function g))
           (walks (𝓣 .C) (𝓣 .Λ) (fmOf 𝓤 H (W .laws) 𝓣) known)
+
+    module _ (tellsD : Tells D (Is D) (λ d. valD d ∷ []))
+        (answer-is : (d : D .Denot) → Is D d (valD d ∷ []) → Is (S .type) (answer d) (S .val (answer d) ∷ []))
+        (next-is : (d : D .Denot) → Is D d (valD d ∷ []) → Is R (next d) (vals (next d)))
+        {M : Type 1} (𝓤 : URA M) (H : Heap 𝓤) (𝓜 : Model 𝓤 H) (𝓖 : GhostRules 𝓤 H) (𝓡 : Running 𝓤 H 𝓜)
+        (typedD : (d : D .Denot) → Is D d (valD d ∷ []) → Holds (hasTy τD (valD d)) × WT (valD d))
+        (need : T .D → Values 0 tt ps → SProp 𝓤)
+        (claims : (h : T .D) (a : Values 0 tt ps) (d : D .Denot) → Said h a d → Claim h a (answer d) (next d))
+        (γ : Env) where
+      pub thin : (name g : Name) → Closed 𝓤 H (tables 𝓤 H 𝓜 𝓡 γ .C) (tables 𝓤 H 𝓜 𝓡 γ .Λ) name (function g)
+          → (r : Routine) → γ g ≡ r → Triple 𝓤 (𝓡 .run r) (Callee 𝓤 need H (𝓖 .A))
+          → Meets 𝓤 H (𝓖 .A) signature (𝓡 .run (γ name)) (closing 𝓤 H (𝓖 .A) ended (clauses 𝓤 need))
+      thin name g unfolded r calls met =
+          over 𝓤 H 𝓜 𝓡 γ (tripleOf 𝓤 H (𝓖 .A) signature (closing 𝓤 H (𝓖 .A) ended (clauses 𝓤 need)))
+          (Callee 𝓤 need H (𝓖 .A)) name (function g) unfolded g r calls met
+          (meets tellsD answer-is next-is 𝓤 H (𝓖 .A) (givenOf 𝓤 H 𝓜 𝓖) typedD need claims g)

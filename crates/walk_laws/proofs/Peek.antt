@@ -4,7 +4,7 @@
 --     need h a         what both require of the state h and the parameters' values a
 --     Said h a r       what g ensures of its result r, and f of the same
 --     signature, ended, clauses, function      f's, to which what `rattle check` makes of f computes;  by-value..: g's
---     meets            f meets its contract, from that g does
+--     thin             f meets its contract, from that g does
 -- In order: the two functions, what g asks and says, f's exit, the walk, the law. Assumes nothing.
 use Prim.Native.Nat.{ℕ, suc}
 use mathlib.Core.Path.{_≡_, refl}
@@ -14,9 +14,12 @@ use mir.Syntax.{Name, Ty, tyRef, named, imm, deref, place, copy, rvOpd, seq, ass
 use mir.Val.{Val, vptr}
 use base.Logic.{SProp, ent, sep, snd∗, exE, id⊢}
 use base.Fml.{GName, Lft, Share, ftrue, flft, fres, fshr-bor}
-use prog.Wp.{Heap, Calls, Loops, WpFn, Tables}
+use prog.Wp.{Heap, Calls, Loops, WpFn, Closed, Tables}
 use ghost.Atoms.{Atoms, sem}
 use contract.Monad.{fact}
+use contract.Running.{Running, GhostRules, givenOf, tables}
+use prog.Model.{Model}
+use prog.Routine.{Routine, Env}
 use types.Kit.{Given, ‵, raw, _⊛_, ⋆, some, later, _$_, _∵_, !, qed, by, move, keep, drop, use0, use1, split, join, pick}
 use types.Kit.{fsplit, fsplit3, fjoin, fjoin3, feqI, suffices, frame, await, done}
 use types.Run.{look, look-raw, init, forget, stop, hop, from, load, of-opd, and-then, assigns, land, returns}
@@ -39,6 +42,7 @@ use denote.Triple.Entry.{onEntry}
 use denote.Triple.Spec.{Meets, tripleOf}
 use denote.Triple.Walked.{says, Stays, stay-none-ref, hasOf, walkOf, goes-none-ref, Walks, ends-at, walked, walk-meets}
 use denote.Exit.{yes}
+use Rattle.walk_laws.proofs.Calling.{over}
 use Rattle.walk_laws.proofs.Data.{Data, typed-at}
 use Rattle.walk_laws.proofs.Parameters.{slots, kept, stay, rows, Values, spells, tell, lists, machine, Known}
 use Rattle.walk_laws.proofs.Parameters.{finals, fits, made, had, goes, across, known-across}
@@ -229,10 +233,20 @@ module _ (T : Declared) (L : LL.Laws T) (ps : List Data) (S : Data)
           (λ κs qs bounds a _ are.
           walk (κs .0) (qs .0) (a .0 .ptr .0) (a .0 .ptr .1) (a .0 .name) (a .0 .now) (a .1) (are .1) C Λ fm known)
 
-      pub meets : (𝓣 : Tables 𝓤 H) → Triple 𝓤 (𝓣 .C g) (Callee 𝓤 need H A)
+      meets : (𝓣 : Tables 𝓤 H) → Triple 𝓤 (𝓣 .C g) (Callee 𝓤 need H A)
           → Meets 𝓤 H A signature (WpFn 𝓤 H (𝓣 .C) (𝓣 .Λ) (function g)) (closing 𝓤 H A ended (clauses 𝓤 need))
       meets 𝓣 known =
           walk-meets 𝓤 H A ended stayed W
           (goes-none-ref 𝓤 H A W 1 (0 ∷ []) tt (plain (λ _. R)) yes, goes 1 𝓤 H A W ps) (clauses 𝓤 need)
           (WpFn 𝓤 H (𝓣 .C) (𝓣 .Λ) (function g)) (WpFn-mono 𝓤 H (W .laws) 𝓣 (function g))
           (walks (𝓣 .C) (𝓣 .Λ) (fmOf 𝓤 H (W .laws) 𝓣) known)
+
+    module _ {M : Type 1} (𝓤 : URA M) (H : Heap 𝓤) (𝓜 : Model 𝓤 H) (𝓖 : GhostRules 𝓤 H) (𝓡 : Running 𝓤 H 𝓜)
+        (need : T .D → Values 0 tt ps → SProp 𝓤) (γ : Env) where
+      pub thin : (name g : Name) → Closed 𝓤 H (tables 𝓤 H 𝓜 𝓡 γ .C) (tables 𝓤 H 𝓜 𝓡 γ .Λ) name (function g)
+          → (r : Routine) → γ g ≡ r → Triple 𝓤 (𝓡 .run r) (Callee 𝓤 need H (𝓖 .A))
+          → Meets 𝓤 H (𝓖 .A) signature (𝓡 .run (γ name)) (closing 𝓤 H (𝓖 .A) ended (clauses 𝓤 need))
+      thin name g unfolded r calls met =
+          over 𝓤 H 𝓜 𝓡 γ (tripleOf 𝓤 H (𝓖 .A) signature (closing 𝓤 H (𝓖 .A) ended (clauses 𝓤 need)))
+          (Callee 𝓤 need H (𝓖 .A)) name (function g) unfolded g r calls met
+          (meets 𝓤 H (𝓖 .A) (givenOf 𝓤 H 𝓜 𝓖) need g)

@@ -4,7 +4,7 @@
 --     need h a         what both require of the state h and the parameters' values a
 --     Claim h a s h′   what g ensures of its answer s and the state h′ at exit;  Said h a d: what f ensures of its result d
 --     signature, ended, clauses, function      f's, to which what `rattle check` makes of f computes;  lent..: g's
---     meets            f meets its contract, from that g does, and that Claim gives Said
+--     thin             f meets its contract, from that g does, and that Claim gives Said
 -- In order: the two functions, the state in memory, what g asks, f's exit, the walk, the law. Assumes nothing.
 use Prim.Native.Nat.{ℕ, suc}
 use mathlib.Core.Path.{_≡_, refl, sym, ap, subst}
@@ -17,9 +17,12 @@ use mir.Syntax.{seq, assign, call, return, local, valueLocal, memorySlot, Fn}
 use mir.Val.{Val, WT, hasTy, vptr, vstruct, vcons, vnil}
 use base.Logic.{SProp, ent, sep, guard, id⊢}
 use base.Fml.{GName, ftrue, fsep, flft, fres, flent, fat}
-use prog.Wp.{Heap, Calls, Loops, WpFn, Tables}
+use prog.Wp.{Heap, Calls, Loops, WpFn, Closed, Tables}
 use ghost.Atoms.{Atoms, sem}
 use contract.Monad.{fact}
+use contract.Running.{Running, GhostRules, givenOf, tables}
+use prog.Model.{Model}
+use prog.Routine.{Routine, Env}
 use types.Kit.{Given, ‵, raw, given, _⊛_, ⋆, some, later, _$_, _∵_, !, qed, by, move, keep, drop, use0, use1, use3, split}
 use types.Kit.{join, learn, check, pick, rewrite, fsplit, fjoin, fpick, fpack, suffices, frame, await, done}
 use types.Part.{agg}
@@ -47,6 +50,7 @@ use denote.Triple.Entry.{onEntry}
 use denote.Triple.Spec.{Meets, tripleOf}
 use denote.Triple.Walked.{says, Stays, stay-none, hasOf, walkOf, goes-none, Walks, ends-at, walked, walk-meets}
 use denote.Exit.{Last, left, yes}
+use Rattle.walk_laws.proofs.Calling.{over}
 use Rattle.walk_laws.proofs.Data.{Data, typed-at}
 use Rattle.walk_laws.proofs.Parameters.{slots, kept, stay, rows, Values, spells, tell, lists, machine, Known}
 use Rattle.walk_laws.proofs.Parameters.{finals, fits, made, had, goes, across, known-across, across-back}
@@ -329,9 +333,24 @@ module _ (T : Declared) (L : LL.Laws T) (ps : List Data) (S D : Data) (ν : Sym)
           (λ κs. (vals, spells 0 tt ps)) (λ κs. (LL.tells T L, tell 0 tt ps))
           (λ κs qs bounds a _ are. walk (a .0) (a .1) (are .0) (are .1) C Λ fm known)
 
-      pub meets : (𝓣 : Tables 𝓤 H) → Triple 𝓤 (𝓣 .C g) (Callee 𝓤 need H A)
+      meets : (𝓣 : Tables 𝓤 H) → Triple 𝓤 (𝓣 .C g) (Callee 𝓤 need H A)
           → Meets 𝓤 H A signature (WpFn 𝓤 H (𝓣 .C) (𝓣 .Λ) (function g)) (closing 𝓤 H A ended (clauses 𝓤 need))
       meets 𝓣 known =
           walk-meets 𝓤 H A ended stayed W (goes-none 𝓤 H A W 0 (λ _. R) yes (λ κs. silentR), goes 0 𝓤 H A W ps)
           (clauses 𝓤 need) (WpFn 𝓤 H (𝓣 .C) (𝓣 .Λ) (function g)) (WpFn-mono 𝓤 H (W .laws) 𝓣 (function g))
           (walks (𝓣 .C) (𝓣 .Λ) (fmOf 𝓤 H (W .laws) 𝓣) known)
+
+    module _ (val-is : (s : S .type .Denot) (h : T .D) → D .val (make s h) ≡ valD s h)
+        (make-is : (s : S .type .Denot) (h : T .D) → Is (S .type) s (S .val s ∷ []) → Is R h (vals h)
+        → Is (D .type) (make s h) (D .val (make s h) ∷ []))
+        {M : Type 1} (𝓤 : URA M) (H : Heap 𝓤) (𝓜 : Model 𝓤 H) (𝓖 : GhostRules 𝓤 H) (𝓡 : Running 𝓤 H 𝓜)
+        (need : T .D → Values 0 tt ps → SProp 𝓤)
+        (claims : (h : T .D) (a : Values 0 tt ps) (s : S .type .Denot) (h′ : T .D) → Claim h a s h′ → Said h a (make s h′))
+        (γ : Env) where
+      pub thin : (name g : Name) → Closed 𝓤 H (tables 𝓤 H 𝓜 𝓡 γ .C) (tables 𝓤 H 𝓜 𝓡 γ .Λ) name (function g)
+          → (r : Routine) → γ g ≡ r → Triple 𝓤 (𝓡 .run r) (Callee 𝓤 need H (𝓖 .A))
+          → Meets 𝓤 H (𝓖 .A) signature (𝓡 .run (γ name)) (closing 𝓤 H (𝓖 .A) ended (clauses 𝓤 need))
+      thin name g unfolded r calls met =
+          over 𝓤 H 𝓜 𝓡 γ (tripleOf 𝓤 H (𝓖 .A) signature (closing 𝓤 H (𝓖 .A) ended (clauses 𝓤 need)))
+          (Callee 𝓤 need H (𝓖 .A)) name (function g) unfolded g r calls met
+          (meets val-is make-is 𝓤 H (𝓖 .A) (givenOf 𝓤 H 𝓜 𝓖) need claims g)
