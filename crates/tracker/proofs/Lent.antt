@@ -20,11 +20,17 @@ use Rattle.rule.specs.View.{MadeRun, Promised}
 use Rattle.rule.specs.declared.Run.{Run}
 use Rattle.rule.proofs.Run as T
 use Rattle.rule.proofs.Run.Laws as T′
+use Rattle.rule.proofs.Setup as P
+use Rattle.rule.proofs.Setup.Laws as P′
 use Rattle.replay.specs.Answers.{callNumber}
 use Rattle.replay.specs.declared.calls.CallAnswer.{CallAnswer}
 use Rattle.replay.specs.declared.calls.Moved.{Moved}
 use Rattle.replay.proofs.calls.CallAnswer as C
 use Rattle.replay.proofs.calls.CallAnswer.Laws as C′
+use Rattle.replay.proofs.start.SetupAnswer as B
+use Rattle.replay.proofs.start.SetupAnswer.Laws as B′
+use Rattle.replay.proofs.start.Start as F
+use Rattle.replay.proofs.start.Start.Laws as F′
 use Rattle.replay.proofs.readings.TaskTicks as K
 use Rattle.replay.proofs.readings.TaskTicks.Laws as K′
 use Rattle.replay.proofs.readings.Completion as E
@@ -50,6 +56,15 @@ completion = enum E.the-type E′.the-laws E′.the-plain tt (λ x. tt) (λ x f.
 
 abbrev pub moved : Data
 moved = struct D.the-type D′.the-laws D′.the-plain (λ x. tt) (λ x f. refl)
+
+abbrev pub setup-given : Data
+setup-given = struct P.the-type P′.the-laws P′.the-plain (λ x. tt) (λ x f. refl)
+
+abbrev pub setup-answer : Data
+setup-answer = enum B.the-type B′.the-laws B′.the-plain tt (λ x. tt) (λ x f. refl)
+
+abbrev pub started : Data
+started = struct F.the-type F′.the-laws F′.the-plain (λ x. tt) (λ x f. refl)
 
 -- ---- readings
 
