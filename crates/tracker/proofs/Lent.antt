@@ -35,6 +35,8 @@ use Rattle.replay.proofs.readings.TaskTicks as K
 use Rattle.replay.proofs.readings.TaskTicks.Laws as K′
 use Rattle.replay.proofs.readings.Completion as E
 use Rattle.replay.proofs.readings.Completion.Laws as E′
+use Rattle.replay.proofs.readings.Next as N
+use Rattle.replay.proofs.readings.Next.Laws as N′
 use Rattle.replay.proofs.calls.Moved as D
 use Rattle.replay.proofs.calls.Moved.Laws as D′
 use Rattle.walk_laws.proofs.Data.{Data, struct, enum}
@@ -53,6 +55,9 @@ task-ticks = enum K.the-type K′.the-laws K′.the-plain tt (λ x. tt) (λ x f.
 
 abbrev pub completion : Data
 completion = enum E.the-type E′.the-laws E′.the-plain tt (λ x. tt) (λ x f. refl)
+
+abbrev pub next : Data
+next = enum N.the-type N′.the-laws N′.the-plain tt (λ x. tt) (λ x f. refl)
 
 abbrev pub moved : Data
 moved = struct D.the-type D′.the-laws D′.the-plain (λ x. tt) (λ x f. refl)

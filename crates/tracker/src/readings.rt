@@ -1,12 +1,13 @@
 // The readings of a run that is lent. Each promises what the reading of the run by value does.
 use replay::readings::Completion;
+use replay::readings::Next;
 use replay::readings::TaskTicks;
 use rule::Run;
 ghost use mathlib.Core.Path.{_≡_};
 ghost use Rattle.lists.specs.Lists.{total};
 ghost use Rattle.rule.specs.View.{view, MadeRun};
-ghost use Rattle.rule.specs.Readings.{owedOf, givenOf, completedOf};
-ghost use Rattle.replay.specs.Answers.{ticksTold, completionTold};
+ghost use Rattle.rule.specs.Readings.{owedOf, givenOf, completedOf, nextDone};
+ghost use Rattle.replay.specs.Answers.{ticksTold, completionTold, nextTold};
 
 pub fn clock_of(run: &Run) -> u32
     ensures { λ r. ⌜ r ≡ view (now (run .entry)) .clock ⌝ }
@@ -51,4 +52,12 @@ pub fn completed_of(run: &Run, task: u32) -> Completion
     ensures { λ r. ⌜ completionTold r ≡ completedOf (view (now (run .entry))) task ⌝ }
 {
     replay::readings::completed(*run, task)
+}
+
+// The next completion.
+pub fn next_of(run: &Run) -> Next
+    requires { ⌜ MadeRun (now run) ⌝ }
+    ensures { λ r. ⌜ nextTold r ≡ nextDone (view (now (run .entry))) ⌝ }
+{
+    replay::readings::next_done(*run)
 }
