@@ -1,4 +1,5 @@
-// Run A of document 01 followed on one run that is moved in place: a line after each call, and at the end the completions.
+// Run A of document 01 followed on one run that is moved in place: a line after each call, and at the end the
+// completions.
 use libc::STDOUT_FILENO;
 use replay::readings::Completion;
 use rule::Run;

@@ -1,5 +1,5 @@
--- Laws of what setting up anew promises, from what a setup does. In order: the answer's case, as a `match` has it; accepted
--- and refused; the run afterwards is made where the run before is. Assumes nothing.
+-- Laws of what setting up anew promises, from what a setup does. In order: the answer's case, as a `match` has it;
+-- accepted and refused; the run afterwards is made where the run before is. Assumes nothing.
 use Prim.Native.Nat.{ℕ}
 use native.Mathlib.Omega.{arith}
 use mathlib.Core.Path.{_≡_, refl, sym, _∙_, subst}

@@ -24,7 +24,8 @@ use Rattle.tracker.specs.Restarted.{Restarted}
 pub call-in-determined : (before : Run) (c : Call)
     → Determined (λ (o : CallAnswer × Run). Promised before c (callNumber (o .0)) (o .1))
 call-in-determined before c x y a b =
-    let one = call-determined before c (record { answer = x .0; run = x .1 }) (record { answer = y .0; run = y .1 }) a b in
+    let one = call-determined before c (record { answer = x .0; run = x .1 })
+    (record { answer = y .0; run = y .1 }) a b in
     λ i. (one i .answer, one i .run)
 
 pub call-in-refused : (before : Run) (c : Call) (answer : CallAnswer) (after : Run) → MadeRun before

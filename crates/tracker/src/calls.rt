@@ -1,5 +1,5 @@
-// The calls on a run that is lent. Each promises of the run before and after what the call by value does: a refused call
-// leaves the very run.
+// The calls on a run that is lent. Each promises of the run before and after what the call by value does: a refused
+// call leaves the very run.
 use replay::calls::CallAnswer;
 use replay::calls::Moved;
 use rule::Run;

@@ -2,7 +2,8 @@
 --     fn f(s: &mut R, ps) -> S { let m = g(*s, ps); *s = m.next; m.answer }
 -- over g by value. All types are plain data, and g's result D is a struct of two fields: the answer, the next state.
 --     need h a         what both require of the state h and the parameters' values a
---     Said h a d       what g ensures of its result d;  Claim h a s h′: what f ensures of its answer s and the state h′ at exit
+--     Said h a d       what g ensures of its result d;  Claim h a s h′: what f ensures of its answer s and the state
+--                      h′ at exit
 --     signature, ended, clauses, function      f's, to which what `rattle check` makes of f computes;  by-value..: g's
 --     thin             f meets its contract, from that g does, and that Said gives Claim
 -- In order: the two functions, what g asks and says, f's exit, the walk, the law. Assumes nothing.
@@ -23,9 +24,11 @@ use contract.Monad.{fact}
 use contract.Running.{Running, GhostRules, givenOf, tables}
 use prog.Model.{Model}
 use prog.Routine.{Routine, Env}
-use types.Kit.{Given, ‵, raw, _⊛_, ⋆, some, later, _$_, _∵_, !, qed, by, move, keep, drop, use0, use1, split, join, pick}
+use types.Kit.{Given, ‵, raw, _⊛_, ⋆, some, later, _$_, _∵_, !, qed, by, move, keep, drop, use0, use1, split, join}
+use types.Kit.{pick}
 use types.Kit.{rewrite, fsplit, fsplit3, fjoin, fjoin3, feqI, suffices, frame, await, done}
-use types.Run.{look, look-raw, init, store-raw, forget, stop, hop, fld, from, load, of-opd, and-then, assigns, land, returns}
+use types.Run.{look, look-raw, init, store-raw, forget, stop, hop, fld, from, load, of-opd, and-then, assigns, land}
+use types.Run.{returns}
 use types.Run.{enter, alloc1, alloc0, params1, pass1, pass0, free1, free0}
 use types.Part.{whole, sub, look-in}
 use types.SemTy.{Body}
@@ -51,7 +54,8 @@ use Rattle.walk_laws.proofs.Calling.{over}
 use Rattle.walk_laws.proofs.Data.{Data}
 use Rattle.walk_laws.proofs.Parameters.{slots, kept, stay, rows, Values, spells, tell, lists, machine, Known}
 use Rattle.walk_laws.proofs.Parameters.{finals, fits, made, had, goes, across, known-across}
-use Rattle.walk_laws.proofs.Passing.{locals, Blocks, after, after-env, operands, rooms, from-at, alloc-all, pass-all}
+use Rattle.walk_laws.proofs.Passing.{locals, Blocks, after, after-env, operands, rooms, from-at, alloc-all}
+use Rattle.walk_laws.proofs.Passing.{pass-all}
 use Rattle.walk_laws.proofs.Passing.{forget-all, read-all, free-all}
 
 module _ (T : Declared) (L : LL.Laws T) (ps : List Data) (S : Data) (D : RattleType) (ν : Sym)
@@ -93,6 +97,9 @@ module _ (T : Declared) (L : LL.Laws T) (ps : List Data) (S : Data) (D : RattleT
 
   abbrev atR : ℕ
   atR = suc (suc (after ps 1))
+
+  abbrev rest : ℕ → ℕ → List (Ty × ℕ)
+  rest l₂ l₃ = (τD, l₂) ∷ (τR, l₃) ∷ []
 
   abbrev pub function : Name → Fn
   function g =
@@ -195,9 +202,11 @@ module _ (T : Declared) (L : LL.Laws T) (ps : List Data) (S : Data) (D : RattleT
             _ (answer d) (next d, finals 1 (κ, tt) ps a) (tt, fits 1 (κ, tt) ps a)) $
             says ! (claims h a′ d e) $ nothing ! $ move ! (3 ∷ 0 ∷ []) $ join ! $
             frame ! $ feqI ! (List Val) (vptr b o ∷ []) (vptr b o ∷ []) refl $ fjoin3 ! $
-            use0 W (‵ (hasOf (κ, tt) (slots 1 ps) (kept 1 ps) (stay 1 ps) a (finals 1 (κ, tt) ps a) (lists 1 (κ, tt) ps a)))
+            use0 W (‵ (hasOf (κ, tt) (slots 1 ps) (kept 1 ps) (stay 1 ps) a (finals 1 (κ, tt) ps a)
+            (lists 1 (κ, tt) ps a)))
             (had 1 (κ, tt) 𝓤 H A W ps a is) $ move ! (1 ∷ 0 ∷ []) $ fjoin ! $
-            owned ! (S .type) (Is (S .type)) (S .makes 𝓤 H A W) (answer d) _ (answer-is d isD) $ move ! (1 ∷ 0 ∷ []) $ done !
+            owned ! (S .type) (Is (S .type)) (S .makes 𝓤 H A W) (answer d) _ (answer-is d isD) $
+            move ! (1 ∷ 0 ∷ []) $ done !
 
         -- ---- the walk
 
@@ -215,18 +224,20 @@ module _ (T : Declared) (L : LL.Laws T) (ps : List Data) (S : Data) (D : RattleT
               -- [obs; the borrow; the token; need; …]
               enter ! C Λ (function g) (vptr b o ∷ machine 1 (κ, tt) ps a) _ $
               alloc1 ! (λ l₀. alloc1 ! (λ l₁. alloc-all ! ps (λ bs. alloc1 ! (λ l₂. alloc1 ! (λ l₃. alloc0 ! $
-              params1 ! $ pass1 ! (init ! 5 refl (tt, tt)) $ move ! (4 ∷ []) $ pass-all 1 (κ, tt) ! ps bs a is $ pass0 ! $
+              params1 ! $ pass1 ! (init ! 5 refl (tt, tt)) $ move ! (4 ∷ []) $ pass-all 1 (κ, tt) ! ps bs a is $
+              pass0 ! $
               move ! (9 ∷ 10 ∷ 11 ∷ []) $ opens ! tt R {h = h} b o (λ vs.
               spelt ! R (Is R) (shows 𝓤 H A R) vals (LL.tells T L) fullShare h vs b o $
               move ! (1 ∷ []) $ peeks ! R (Is R) (shows 𝓤 H A R) h (vals h) (λ was. drop ! $
-              -- [the cell; the open borrow; obs; auth; ps; state; …; result; …; reference; …; room for the answer; …; need; …]
+              -- [the cell; the open borrow; obs; auth; ps; state; …; result; …; reference; …; room for the answer;
+              -- …; need; …]
               assigns ! (of-opd ! (load ! (from ! (hop ! (look ! 9 refl) (stop !))) (look-raw ! 0 refl)))
-              (from-at ! (after-env ps bs ((τD, l₂) ∷ (τR, l₃) ∷ []) 1) (stop !))
+              (from-at ! (after-env ps bs (rest l₂ l₃) 1) (stop !))
               (init ! 5 refl (LL.lawful T L 𝓤 H A W .typed h _ was .0)) $
               move ! (13 ∷ []) $ use1 W (raw (Callee 𝓤 need H A .pre to)) (asked was) $
               calls-at ! fm (Callee 𝓤 need H A) known to
-              (and-then ! (load ! (from-at ! (after-env ps bs ((τD, l₂) ∷ (τR, l₃) ∷ []) 1) (stop !)) (look ! 6 refl))
-              (read-all 𝓤 H A W 1 (κ, tt) 0 tt ps bs a 5 _ _ ((τD, l₂) ∷ (τR, l₃) ∷ []) (λ k. suc (suc k)) (λ j d. refl) refl !))
+              (and-then ! (load ! (from-at ! (after-env ps bs (rest l₂ l₃) 1) (stop !)) (look ! 6 refl))
+              (read-all 𝓤 H A W 1 (κ, tt) 0 tt ps bs a 5 _ _ (rest l₂ l₃) (λ k. suc (suc k)) (λ j d. refl) refl !))
               (λ v.
               use1 W
               (later (some (λ (d : D .Denot).
@@ -237,19 +248,18 @@ module _ (T : Declared) (L : LL.Laws T) (ps : List Data) (S : Data) (D : RattleT
               peeks ! D (Is D) (shows 𝓤 H A D) d (v ∷ []) (λ isV.
               rewrite ! 0 (λ (us : List Val). ‵ (D .own d us)) (tellsD d (v ∷ []) isV) refl $
               peeks ! D (Is D) (shows 𝓤 H A D) d (valD d ∷ []) (λ isD. drop ! $
-              land ! (from-at ! (after-env ps bs ((τD, l₂) ∷ (τR, l₃) ∷ []) 0) (stop !))
+              land ! (from-at ! (after-env ps bs (rest l₂ l₃) 0) (stop !))
               (init ! 7 refl
-              (subst⁻¹ (λ (us : List Val). Holds (hasTy τD (only us)) × WT (only us)) (tellsD d (v ∷ []) isV) (typedD d isD))) $
+              (subst⁻¹ (λ (us : List Val). Holds (hasTy τD (only us)) × WT (only us)) (tellsD d (v ∷ []) isV)
+              (typedD d isD))) $
               rewrite ! 7 (λ (u : Val). ‵ (fat fullShare τD l₂ 0 u)) (ap only (tellsD d (v ∷ []) isV)) refl $
               assigns !
-              (of-opd !
-              (load ! (from-at ! (after-env ps bs ((τD, l₂) ∷ (τR, l₃) ∷ []) 0) (fld ! refl (stop !)))
+              (of-opd ! (load ! (from-at ! (after-env ps bs (rest l₂ l₃) 0) (fld ! refl (stop !)))
               (look-in ! 7 (sub ! 1 refl (whole !)))))
               (from ! (hop ! (look ! 9 refl) (stop !)))
               (store-raw ! 0 refl (LL.lawful T L 𝓤 H A W .typed (next d) _ (next-is d isD) .0)) $
               assigns !
-              (of-opd !
-              (load ! (from-at ! (after-env ps bs ((τD, l₂) ∷ (τR, l₃) ∷ []) 0) (fld ! refl (stop !)))
+              (of-opd ! (load ! (from-at ! (after-env ps bs (rest l₂ l₃) 0) (fld ! refl (stop !)))
               (look-in ! 7 (sub ! 0 refl (whole !)))))
               (from ! (stop !)) (init ! 11 refl (S .typed 𝓤 H A W (answer d) (answer-is d isD))) $
               owned ! R (Is R) (LL.makes T plainR 𝓤 H A) (next d) _ (next-is d isD) $ move ! (1 ∷ 0 ∷ []) $

@@ -14,7 +14,8 @@ use base.Fml.{Fml, ftrue, fsep, fat, froom, fdies}
 use prog.Wp.{Heap, Env, Spot, spotOf, walk}
 use ghost.Atoms.{Atoms, sem}
 use contract.Lifetimes.{Lfts}
-use types.Kit.{Given, Item, ‵, mean, ⋆, nth, del, push, pop, pull, unpull, Goal, passes, allocs, frees, Seq, Step, step, _$_, _∵_, !, qed, move, use1, drop, fsplit3, fjoin3, done}
+use types.Kit.{Given, Item, ‵, mean, ⋆, nth, del, push, pop, pull, unpull, Goal, passes, allocs, frees, Seq, Step}
+use types.Kit.{step, _$_, _∵_, !, qed, move, use1, drop, fsplit3, fjoin3, done}
 use types.Run.{Reads, Walks, Finds, Opds, look, init, forget, stop, load, and-then, no-more, alloc1, pass1, free1}
 use denote.Steps.{nothing}
 use Rattle.walk_laws.proofs.Data.{Data}
@@ -69,7 +70,8 @@ module _ {M : Type 1} {𝓤 : URA M} {H : Heap 𝓤} {A : Atoms 𝓤} {K : Type 
       → ((d : Ty × ℕ) → getD E i d ≡ e) → Walks K W Γ E (e .0, e .1, zero) st sp → Finds K W Γ E (place i st) sp
   from-at {Γ = Γ} {E = E} {st = st} t is w =
       record {
-        go = λ Kt h. subst⁻¹ (λ (e : Ty × ℕ). ent 𝓤 (⋆ 𝓤 H A Γ) (walk 𝓤 H E (e .0, e .1, zero) st Kt)) (is _) (w .go Kt h);
+        go = λ Kt h. subst⁻¹ (λ (e : Ty × ℕ). ent 𝓤 (⋆ 𝓤 H A Γ) (walk 𝓤 H E (e .0, e .1, zero) st Kt)) (is _)
+            (w .go Kt h);
       }
 
   pub alloc-all : K → (ps : List Data) {Γ : List (Item 𝓤)} {ls : List Local} {Kt : Env 𝓤 H → Goal 𝓤 H}
@@ -130,7 +132,10 @@ module _ {M : Type 1} (𝓤 : URA M) (H : Heap 𝓤) (A : Atoms 𝓤) (W : Given
         let first : Opds _ W Δ E (operands ix (p ∷ ps)) (machine m κs′ (p ∷ ps) (across n m κs κs′ (p ∷ ps) a)) =
         and-then t (load t (from-at t (is 0) (stop t)) (look t 0 refl))
         (read-all m κs′ ps (bs .1) (a .1) 2 Δ E E′ (λ j. ix (suc j)) (λ j. is (suc j)) refl t) in
-        record { go = λ Kt h. via 𝓤 (⋆ 𝓤 H A Δ) (apart k Γ P Q R e) (first .go Kt (via 𝓤 (⋆ 𝓤 H A Γ) (together k Γ P Q R e) h)) }
+        record {
+          go = λ Kt h. via 𝓤 (⋆ 𝓤 H A Δ) (apart k Γ P Q R e)
+              (first .go Kt (via 𝓤 (⋆ 𝓤 H A Γ) (together k Γ P Q R e) h));
+        }
 
 module _ {M : Type 1} {𝓤 : URA M} {H : Heap 𝓤} {A : Atoms 𝓤} {K : Type 0} {W : Given 𝓤 H A} where
   pub free-all : K → (ps : List Data) (bs : Blocks ps) {Γ : List (Item 𝓤)} {E : Env 𝓤 H} {g : Goal 𝓤 H}

@@ -1,8 +1,10 @@
--- Plain parameters above a function that moves a state in place, once for every such pair and any further parameters ps:
+-- Plain parameters above a function that moves a state in place, once for every such pair and any further parameters
+-- ps:
 --     fn f(s: R, ps) -> D { let mut k = s; let m = g(&mut k, ps); D { answer: m, next: k } }
 -- All types are plain data, and D is a struct of two fields. So whoever calls f needs no walk.
 --     need h a         what both require of the state h and the parameters' values a
---     Claim h a s h′   what g ensures of its answer s and the state h′ at exit;  Said h a d: what f ensures of its result d
+--     Claim h a s h′   what g ensures of its answer s and the state h′ at exit;  Said h a d: what f ensures of its
+--                      result d
 --     signature, ended, clauses, function      f's, to which what `rattle check` makes of f computes;  lent..: g's
 --     thin             f meets its contract, from that g does, and that Claim gives Said
 -- In order: the two functions, the state in memory, what g asks, f's exit, the walk, the law. Assumes nothing.
@@ -23,7 +25,8 @@ use contract.Monad.{fact}
 use contract.Running.{Running, GhostRules, givenOf, tables}
 use prog.Model.{Model}
 use prog.Routine.{Routine, Env}
-use types.Kit.{Given, ‵, raw, given, _⊛_, ⋆, some, later, _$_, _∵_, !, qed, by, move, keep, drop, use0, use1, use3, split}
+use types.Kit.{Given, ‵, raw, given, _⊛_, ⋆, some, later, _$_, _∵_, !, qed, by, move, keep, drop, use0, use1, use3}
+use types.Kit.{split}
 use types.Kit.{join, learn, check, pick, rewrite, fsplit, fjoin, fpick, fpack, suffices, frame, await, done}
 use types.Part.{agg}
 use types.Run.{look, init, forget, stop, from, load, of-opd, addr, and-then, no-more, assigns, land, returns}
@@ -54,7 +57,8 @@ use Rattle.walk_laws.proofs.Calling.{over}
 use Rattle.walk_laws.proofs.Data.{Data, typed-at}
 use Rattle.walk_laws.proofs.Parameters.{slots, kept, stay, rows, Values, spells, tell, lists, machine, Known}
 use Rattle.walk_laws.proofs.Parameters.{finals, fits, made, had, goes, across, known-across, across-back}
-use Rattle.walk_laws.proofs.Passing.{locals, Blocks, after, after-env, operands, rooms, from-at, alloc-all, pass-all}
+use Rattle.walk_laws.proofs.Passing.{locals, Blocks, after, after-env, operands, rooms, from-at, alloc-all}
+use Rattle.walk_laws.proofs.Passing.{pass-all}
 use Rattle.walk_laws.proofs.Passing.{forget-all, read-all, free-all}
 
 module _ (T : Declared) (L : LL.Laws T) (ps : List Data) (S D : Data) (ν : Sym)
@@ -98,6 +102,9 @@ module _ (T : Declared) (L : LL.Laws T) (ps : List Data) (S D : Data) (ν : Sym)
   abbrev place-of : ℕ → ℕ
   place-of k = suc (suc (after ps k))
 
+  abbrev rest : ℕ → ℕ → ℕ → ℕ → List (Ty × ℕ)
+  rest l₂ l₃ l₄ l₅ = (τR, l₂) ∷ (S .mir, l₃) ∷ (τK, l₄) ∷ (τR, l₅) ∷ []
+
   abbrev pub function : Name → Fn
   function g =
       record {
@@ -115,7 +122,8 @@ module _ (T : Declared) (L : LL.Laws T) (ps : List Data) (S D : Data) (ν : Sym)
             (seq (call g (copy (place (place-of 2) []) ∷ operands (λ k. suc (suc k)) ps) (place (place-of 1) []))
             (seq (assign (place (place-of 3) []) (rvOpd (copy (place (place-of 0) []))))
             (seq
-            (assign (place 0 []) (aggregate (copy (place (place-of 1) []) ∷ copy (place (place-of 3) []) ∷ []))) return))));
+            (assign (place 0 [])
+            (aggregate (copy (place (place-of 1) []) ∷ copy (place (place-of 3) []) ∷ []))) return))));
       }
 
   module _ {M : Type 1} (𝓤 : URA M) (need : T .D → Values 0 tt ps → SProp 𝓤) where
@@ -153,7 +161,8 @@ module _ (T : Declared) (L : LL.Laws T) (ps : List Data) (S D : Data) (ν : Sym)
         → Is (D .type) (make s h) (D .val (make s h) ∷ []))
         {M : Type 1} (𝓤 : URA M) (H : Heap 𝓤) (A : Atoms 𝓤) (W : Given 𝓤 H A)
         (need : T .D → Values 0 tt ps → SProp 𝓤)
-        (claims : (h : T .D) (a : Values 0 tt ps) (s : S .type .Denot) (h′ : T .D) → Claim h a s h′ → Said h a (make s h′))
+        (claims : (h : T .D) (a : Values 0 tt ps) (s : S .type .Denot) (h′ : T .D) → Claim h a s h′ → Said h a
+        (make s h′))
         (g : Name) where
       abbrev stayed : Stays (ended .signature .params) (ended .kept)
       stayed = (stay-none (λ _. R) yes, stay 0 ps)
@@ -254,26 +263,27 @@ module _ (T : Declared) (L : LL.Laws T) (ps : List Data) (S D : Data) (ν : Sym)
               alloc1 ! (λ l₀. alloc1 ! (λ l₁. alloc-all ! ps (λ bs.
               alloc1 ! (λ l₂. alloc1 ! (λ l₃. alloc1 ! (λ l₄. alloc1 ! (λ l₅. alloc0 ! $ params1 ! $
               pass1 ! (init ! 9 refl (typedR h isR)) $ move ! (8 ∷ []) $ pass-all 0 tt ! ps bs a is $ pass0 ! $
-              -- [ps; room at exit; …; for the reference; …; for the answer; …; for the state; …; s; …; for the result; …; need; …]
+              -- [ps; room at exit; …; for the reference; …; for the answer; …; for the state; …; s; …; for the
+              -- result; …; need; …]
               assigns ! (of-opd ! (load ! (from ! (stop !)) (look ! 9 refl)))
-              (from-at ! (after-env ps bs ((τR, l₂) ∷ (S .mir, l₃) ∷ (τK, l₄) ∷ (τR, l₅) ∷ []) 0) (stop !))
+              (from-at ! (after-env ps bs (rest l₂ l₃ l₄ l₅) 0) (stop !))
               (init ! 7 refl (typedR h isR)) $
-              assigns ! (addr ! (from-at ! (after-env ps bs ((τR, l₂) ∷ (S .mir, l₃) ∷ (τK, l₄) ∷ (τR, l₅) ∷ []) 0) (stop !)))
-              (from-at ! (after-env ps bs ((τR, l₂) ∷ (S .mir, l₃) ∷ (τK, l₄) ∷ (τR, l₅) ∷ []) 2) (stop !))
+              assigns ! (addr ! (from-at ! (after-env ps bs (rest l₂ l₃ l₄ l₅) 0) (stop !)))
+              (from-at ! (after-env ps bs (rest l₂ l₃ l₄ l₅) 2) (stop !))
               (init ! 3 refl (tt, tt)) $
               -- the state is lent, for a lifetime α of the call
-              move ! (7 ∷ []) $ use1 W (‵ (mem R .lies h l₂ 0)) (lies-in h l₂ 0 isR) $ lft-new ! tt (λ α. move ! (1 ∷ []) $
+              move ! (7 ∷ []) $ use1 W (‵ (mem R .lies h l₂ 0)) (lies-in h l₂ 0 isR) $
+              lft-new ! tt (λ α. move ! (1 ∷ []) $
               use1 W
               (later (some (λ (δ : GName).
-              ‵ (MutRef (named 0) (α ∷ []) R .own (x l₂ δ) (vptr l₂ 0 ∷ [])) ⊛ ‵ (flent (α ∷ []) (Body (mem R) l₂ 0 δ)))))
+              ‵ (MutRef (named 0) (α ∷ []) R .own (x l₂ δ) (vptr l₂ 0 ∷ [])) ⊛ ‵
+              (flent (α ∷ []) (Body (mem R) l₂ 0 δ)))))
               (lends-ref 𝓤 H A W R (named 0) (α ∷ []) h l₂ 0) $ await ! tt $ pick ! (λ δ. split ! $
               -- [the reference; the lender's part; the lifetime's token; ps; …; need; …]
               move ! (0 ∷ 2 ∷ 15 ∷ []) $ use3 W (raw (Callee 𝓤 need H A .pre (to l₂ α δ))) (asked l₂ α δ) $
               calls-at ! fm (Callee 𝓤 need H A) known (to l₂ α δ)
-              (and-then !
-              (load ! (from-at ! (after-env ps bs ((τR, l₂) ∷ (S .mir, l₃) ∷ (τK, l₄) ∷ (τR, l₅) ∷ []) 2) (stop !))
-              (look ! 5 refl))
-              (read-all 𝓤 H A W 0 tt 1 (α ∷ [], tt) ps bs a 2 _ _ ((τR, l₂) ∷ (S .mir, l₃) ∷ (τK, l₄) ∷ (τR, l₅) ∷ [])
+              (and-then ! (load ! (from-at ! (after-env ps bs (rest l₂ l₃ l₄ l₅) 2) (stop !)) (look ! 5 refl))
+              (read-all 𝓤 H A W 0 tt 1 (α ∷ [], tt) ps bs a 2 _ _ (rest l₂ l₃ l₄ l₅)
               (λ k. suc (suc k)) (λ j d. refl) refl !))
               (λ v.
               use1 W
@@ -283,14 +293,15 @@ module _ (T : Declared) (L : LL.Laws T) (ps : List Data) (S D : Data) (ν : Sym)
               await ! tt $ pick ! (λ s. split ! $ move ! (1 ∷ []) $
               use1 W
               (some (λ (ws : T .D × Fins (α ∷ [], tt) (slots 1 ps) (kept 1 ps) (a′ α)).
-              ‵ (lasts lent-ended (α ∷ [], tt) (x l₂ δ, a′ α) ws) ⊛ raw (fact 𝓤 (Claim h (a″ α) s (ws .0))))) (id⊢ 𝓤 _) $
+              ‵ (lasts lent-ended (α ∷ [], tt) (x l₂ δ, a′ α) ws) ⊛ raw (fact 𝓤 (Claim h (a″ α) s (ws .0)))))
+              (id⊢ 𝓤 _) $
               pick ! (λ ws. split ! $ move ! (1 ∷ []) $ heard ! (Claim h (a″ α) s (ws .0)) (λ e. fsplit ! $
               move ! (2 ∷ []) $ split ! $ move ! (1 ∷ []) $
               peeks ! (S .type) (Is (S .type)) (shows 𝓤 H A (S .type)) s (v ∷ []) (λ isV.
               rewrite ! 0 (λ (us : List Val). ‵ (S .type .own s us)) (S .tells s (v ∷ []) isV) refl $
               peeks ! (S .type) (Is (S .type)) (shows 𝓤 H A (S .type)) s (S .val s ∷ []) (λ isS. drop ! $
               -- [the token; the state's last value; …; the lender's part; ps; …]
-              land ! (from-at ! (after-env ps bs ((τR, l₂) ∷ (S .mir, l₃) ∷ (τK, l₄) ∷ (τR, l₅) ∷ []) 1) (stop !))
+              land ! (from-at ! (after-env ps bs (rest l₂ l₃ l₄ l₅) 1) (stop !))
               (init ! 9 refl (typed-at S 𝓤 H A W s v isV)) $
               rewrite ! 9 (λ (u : Val). ‵ (fat fullShare (S .mir) l₃ 0 u)) (ap only (S .tells s (v ∷ []) isV)) refl $
               -- the lifetime is ended, and the state comes back at its last value
@@ -298,21 +309,16 @@ module _ (T : Declared) (L : LL.Laws T) (ps : List Data) (S D : Data) (ν : Sym)
               use3 W (later (‵ (mem R .lies (ws .0) l₂ 0))) (ref-back 𝓤 H A W R (α ∷ []) δ (ws .0) l₂ 0) $ await ! tt $
               use1 W (given (Is R (ws .0) (vals (ws .0))) (‵ (fat fullShare τR l₂ 0 (LL.val T L (ws .0)))))
               (lies-out (ws .0) l₂ 0) $ learn ! (λ isR′.
-              -- [the state; …; …; ps; room at exit; …; the reference; …; the answer; …; …; s; …; room for the result; …]
+              -- [the state; …; …; ps; room at exit; …; the reference; …; the answer; …; …; s; …; room for the
+              -- result; …]
               assigns !
-              (of-opd !
-              (load ! (from-at ! (after-env ps bs ((τR, l₂) ∷ (S .mir, l₃) ∷ (τK, l₄) ∷ (τR, l₅) ∷ []) 0) (stop !))
-              (look ! 0 refl)))
-              (from-at ! (after-env ps bs ((τR, l₂) ∷ (S .mir, l₃) ∷ (τK, l₄) ∷ (τR, l₅) ∷ []) 3) (stop !))
+              (of-opd ! (load ! (from-at ! (after-env ps bs (rest l₂ l₃ l₄ l₅) 0) (stop !)) (look ! 0 refl)))
+              (from-at ! (after-env ps bs (rest l₂ l₃ l₄ l₅) 3) (stop !))
               (init ! 4 refl (typedR (ws .0) isR′)) $
               assigns !
               (agg !
-              (and-then !
-              (load ! (from-at ! (after-env ps bs ((τR, l₂) ∷ (S .mir, l₃) ∷ (τK, l₄) ∷ (τR, l₅) ∷ []) 1) (stop !))
-              (look ! 8 refl))
-              (and-then !
-              (load ! (from-at ! (after-env ps bs ((τR, l₂) ∷ (S .mir, l₃) ∷ (τK, l₄) ∷ (τR, l₅) ∷ []) 3) (stop !))
-              (look ! 4 refl))
+              (and-then ! (load ! (from-at ! (after-env ps bs (rest l₂ l₃ l₄ l₅) 1) (stop !)) (look ! 8 refl))
+              (and-then ! (load ! (from-at ! (after-env ps bs (rest l₂ l₃ l₄ l₅) 3) (stop !)) (look ! 4 refl))
               (no-more !))))
               (from ! (stop !)) (init ! 13 refl (typedD s (ws .0) isS isR′)) $
               returns ! (look ! 13 refl) $ forget ! 0 refl $ forget ! 4 refl $ forget ! 6 refl $ forget ! 8 refl $
@@ -322,7 +328,8 @@ module _ (T : Declared) (L : LL.Laws T) (ps : List Data) (S D : Data) (ν : Sym)
               move ! (0 ∷ 9 ∷ []) $ free1 ! $ move ! (6 ∷ 7 ∷ []) $ free1 ! $ move ! (4 ∷ 5 ∷ []) $ free1 ! $
               move ! (2 ∷ 3 ∷ []) $ free1 ! $ free0 ! $ keep ! (0 ∷ []) $
               by ! (subst (λ (u : Val). ent 𝓤 (⋆ 𝓤 H A (‵ ftrue ∷ [])) (Post u)) (val-is s (ws .0))
-              (exits s (ws .0) (subst (λ (w : Values 0 tt ps). Claim h w s (ws .0)) (back α) e) isS isR′))))))))))))))))))
+              (exits s (ws .0) (subst (λ (w : Values 0 tt ps). Claim h w s (ws .0))
+              (back α) e) isS isR′))))))))))))))))))
 
       -- ---- the law
 
@@ -345,7 +352,8 @@ module _ (T : Declared) (L : LL.Laws T) (ps : List Data) (S D : Data) (ν : Sym)
         → Is (D .type) (make s h) (D .val (make s h) ∷ []))
         {M : Type 1} (𝓤 : URA M) (H : Heap 𝓤) (𝓜 : Model 𝓤 H) (𝓖 : GhostRules 𝓤 H) (𝓡 : Running 𝓤 H 𝓜)
         (need : T .D → Values 0 tt ps → SProp 𝓤)
-        (claims : (h : T .D) (a : Values 0 tt ps) (s : S .type .Denot) (h′ : T .D) → Claim h a s h′ → Said h a (make s h′))
+        (claims : (h : T .D) (a : Values 0 tt ps) (s : S .type .Denot) (h′ : T .D) → Claim h a s h′ → Said h a
+        (make s h′))
         (γ : Env) where
       pub thin : (name g : Name) → Closed 𝓤 H (tables 𝓤 H 𝓜 𝓡 γ .C) (tables 𝓤 H 𝓜 𝓡 γ .Λ) name (function g)
           → (r : Routine) → γ g ≡ r → Triple 𝓤 (𝓡 .run r) (Callee 𝓤 need H (𝓖 .A))

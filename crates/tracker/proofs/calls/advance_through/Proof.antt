@@ -1,4 +1,5 @@
--- `tracker::calls::advance_through` meets its contract: by the law `lends`, from what `advance_in` ensures. Assumes nothing.
+-- `tracker::calls::advance_through` meets its contract: by the law `lends`, from what `advance_in` ensures. Assumes
+-- nothing.
 use mathlib.Core.List.{[], _∷_}
 use mir.Syntax.{w32}
 use Rattle.rule.specs.Calls.{advance}

@@ -1,4 +1,5 @@
--- `tracker::calls::drain_through` meets its contract: by the law `lends`, from what `drain_in` ensures. Assumes nothing.
+-- `tracker::calls::drain_through` meets its contract: by the law `lends`, from what `drain_in` ensures. Assumes
+-- nothing.
 use mathlib.Core.List.{[]}
 use Rattle.rule.specs.Calls.{drain}
 use Rattle.tracker.proofs.Lent.{lends}

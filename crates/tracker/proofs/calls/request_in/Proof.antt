@@ -13,5 +13,6 @@ use Rattle.tracker.proofs.calls.request_in.Code as code
 pub request-in-spec : {M : Type 1} → statement M
 unfolding code.routine
 request-in-spec 𝓤 H 𝓜 𝓖 𝓡 =
-    moves (number w32 ∷ number w32 ∷ number w32 ∷ []) (λ a. request (a .0) (a .1 .0) (a .1 .1 .0)) 𝓤 H 𝓜 𝓖 𝓡 code.env name by-value.name
+    moves (number w32 ∷ number w32 ∷ number w32 ∷ [])
+    (λ a. request (a .0) (a .1 .0) (a .1 .1 .0)) 𝓤 H 𝓜 𝓖 𝓡 code.env name by-value.name
     (code.unfolded 𝓤 H 𝓜 𝓡) by-value.routine code.calls-replay·calls·request (met 𝓤 H 𝓜 𝓖 𝓡)

@@ -1,4 +1,5 @@
--- `tracker::readings::completed_of` meets its contract: by the law `reads`, from what `completed` ensures. Assumes nothing.
+-- `tracker::readings::completed_of` meets its contract: by the law `reads`, from what `completed` ensures. Assumes
+-- nothing.
 use mathlib.Core.Path.{_≡_}
 use mathlib.Core.List.{[], _∷_}
 use mir.Syntax.{w32}

@@ -1,4 +1,5 @@
--- `tracker::readings::total_owed_of` meets its contract: by the law `reads`, from what `total_owed` ensures. Assumes nothing.
+-- `tracker::readings::total_owed_of` meets its contract: by the law `reads`, from what `total_owed` ensures. Assumes
+-- nothing.
 use mathlib.Core.Path.{_≡_}
 use mathlib.Core.List.{[]}
 use mir.Syntax.{w32}
