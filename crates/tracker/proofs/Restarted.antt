@@ -5,7 +5,6 @@ use native.Mathlib.Omega.{arith}
 use mathlib.Core.Path.{_≡_, refl, sym, _∙_, subst}
 use mathlib.Core.Logic.{inl, inr}
 use mathlib.Core.List.{[], _∷_}
-use lib.Dec.{eqb}
 use borrow.Author.Tests.{eq-eqb}
 use types.Run.{OneOf}
 use denote.Enum.Declared.{tagOf}

@@ -1,8 +1,7 @@
 -- No two different outcomes satisfy the promise of a function on a run that is lent, and a refusal leaves the very run.
 -- The calls promise what those of `replay` do, so their theorems are cited; readings have theirs in
 -- Rattle.replay.proofs.Unique, and leave the run by their type. In order: calls; setting up anew. Assumes nothing.
-use Prim.Native.Nat.{ℕ}
-use mathlib.Core.Path.{_≡_, refl, sym, ap, _∙_}
+use mathlib.Core.Path.{_≡_, refl, sym, _∙_}
 use Rattle.lists.proofs.Testing.{equal-or}
 use Rattle.rule.specs.Setups.{setupRefusal}
 use Rattle.rule.specs.State.{fresh}

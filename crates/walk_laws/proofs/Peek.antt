@@ -48,7 +48,7 @@ use Rattle.walk_laws.proofs.Calling.{over}
 use Rattle.walk_laws.proofs.Data.{Data, typed-at}
 use Rattle.walk_laws.proofs.Parameters.{slots, kept, stay, rows, Values, spells, tell, lists, machine, Known}
 use Rattle.walk_laws.proofs.Parameters.{finals, fits, made, had, goes, across, known-across}
-use Rattle.walk_laws.proofs.Passing.{locals, Blocks, after, after-env, operands, rooms, from-at, alloc-all}
+use Rattle.walk_laws.proofs.Passing.{locals, after, after-env, operands, rooms, from-at, alloc-all}
 use Rattle.walk_laws.proofs.Passing.{pass-all}
 use Rattle.walk_laws.proofs.Passing.{forget-all, read-all, free-all}
 

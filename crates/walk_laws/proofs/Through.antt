@@ -7,7 +7,7 @@
 --                      result d
 --     signature, ended, clauses, function      f's, to which what `rattle check` makes of f computes;  lent..: g's
 --     thin             f meets its contract, from that g does, and that Claim gives Said
--- In order: the two functions, the state in memory, what g asks, f's exit, the walk, the law. Assumes nothing.
+-- In order: the two functions, what g asks, f's exit, the walk, the law. Assumes nothing.
 use Prim.Native.Nat.{ℕ, suc}
 use mathlib.Core.Path.{_≡_, refl, sym, ap, subst}
 use mathlib.Core.List.{[], _∷_, List}
@@ -17,17 +17,17 @@ use lib.Dec.{T as Holds}
 use mir.Syntax.{Name, Sym, Ty, tyStruct, tyRef, tcons, tnil, named, erased, mut, place, copy, rvOpd, addrOf, aggregate}
 use mir.Syntax.{seq, assign, call, return, local, valueLocal, memorySlot, Fn}
 use mir.Val.{Val, WT, hasTy, vptr, vstruct, vcons, vnil}
-use base.Logic.{SProp, ent, sep, guard, id⊢}
-use base.Fml.{GName, ftrue, fsep, flft, fres, flent, fat}
+use base.Logic.{SProp, ent, sep, id⊢}
+use base.Fml.{GName, ftrue, flft, flent, fat}
 use prog.Wp.{Heap, Calls, Loops, WpFn, Closed, Tables}
-use ghost.Atoms.{Atoms, sem}
+use ghost.Atoms.{Atoms}
 use contract.Monad.{fact}
 use contract.Running.{Running, GhostRules, givenOf, tables}
 use prog.Model.{Model}
 use prog.Routine.{Routine, Env}
 use types.Kit.{Given, ‵, raw, given, _⊛_, ⋆, some, later, _$_, _∵_, !, qed, by, move, keep, drop, use0, use1, use3}
 use types.Kit.{split}
-use types.Kit.{join, learn, check, pick, rewrite, fsplit, fjoin, fpick, fpack, suffices, frame, await, done}
+use types.Kit.{join, learn, pick, rewrite, fsplit, fjoin, suffices, frame, await, done}
 use types.Part.{agg}
 use types.Run.{look, init, forget, stop, from, load, of-opd, addr, and-then, no-more, assigns, land, returns}
 use types.Run.{enter, alloc1, alloc0, params1, pass1, pass0, free1, free0}
@@ -37,13 +37,12 @@ use sound.WpLaws.{FmC, fmOf, WpFn-mono}
 use denote.RattleType.{RattleType, owns}
 use denote.Laws.{Is, shows}
 use denote.Lend.{lends-ref, ref-back}
-use denote.Memory.{mem, cellAt, partOf, pointee}
+use denote.Memory.{mem, pointee}
 use denote.Ref.{RefT, MutRef, now}
 use denote.Signature.{Signature, plain, mutRefTo}
 use denote.Steps.{only, owned, peeks, heard, nothing}
 use denote.Struct.Declared.{Declared, fields, shape, row}
 use denote.Struct.Struct.{Plains, layout}
-use denote.Struct.Steps.{spelt}
 use denote.Struct.Laws as LL
 use denote.Triple.Statement.{Contract, Triple}
 use denote.Triple.Call.{calls-at}
@@ -55,9 +54,10 @@ use denote.Triple.Walked.{says, Stays, stay-none, hasOf, walkOf, goes-none, Walk
 use denote.Exit.{Last, left, yes}
 use Rattle.walk_laws.proofs.Calling.{over}
 use Rattle.walk_laws.proofs.Data.{Data, typed-at}
+use Rattle.walk_laws.proofs.Lying.{lies-in, lies-out}
 use Rattle.walk_laws.proofs.Parameters.{slots, kept, stay, rows, Values, spells, tell, lists, machine, Known}
 use Rattle.walk_laws.proofs.Parameters.{finals, fits, made, had, goes, across, known-across, across-back}
-use Rattle.walk_laws.proofs.Passing.{locals, Blocks, after, after-env, operands, rooms, from-at, alloc-all}
+use Rattle.walk_laws.proofs.Passing.{locals, after, after-env, operands, rooms, from-at, alloc-all}
 use Rattle.walk_laws.proofs.Passing.{pass-all}
 use Rattle.walk_laws.proofs.Passing.{forget-all, read-all, free-all}
 
@@ -167,27 +167,6 @@ module _ (T : Declared) (L : LL.Laws T) (ps : List Data) (S D : Data) (ν : Sym)
       abbrev stayed : Stays (ended .signature .params) (ended .kept)
       stayed = (stay-none (λ _. R) yes, stay 0 ps)
 
-      -- ---- the state in memory, as a local has it, and as a borrow
-
-      lies-in : (h : T .D) (b o : ℕ) → Is R h (vals h)
-          → ent 𝓤 (H .at fullShare τR b o (LL.val T L h)) (sem 𝓤 H A (mem R .lies h b o))
-      unfolding partOf
-      lies-in h b o is =
-          qed W (‵ (fat fullShare τR b o (LL.val T L h)) ∷ []) ∵
-          use1 W (‵ (cellAt fullShare (R .mir) (vals h) b o)) (W .laws .at-raw fullShare τR b o (LL.val T L h)) $
-          owned ! R (Is R) (LL.makes T plainR 𝓤 H A) h _ is $ move ! (1 ∷ 0 ∷ []) $ fjoin ! $
-          fpack ! (List Val) (λ us. fsep (cellAt fullShare (R .mir) us b o) (R .own h us)) (vals h) $ done !
-
-      lies-out : (h : T .D) (b o : ℕ)
-          → ent 𝓤 (sem 𝓤 H A (mem R .lies h b o)) (guard 𝓤 (Is R h (vals h)) (H .at fullShare τR b o (LL.val T L h)))
-      unfolding partOf
-      lies-out h b o =
-          qed W (‵ (mem R .lies h b o) ∷ []) ∵ fpick ! (λ vs. fsplit ! $
-          spelt ! R (Is R) (shows 𝓤 H A R) vals (LL.tells T L) fullShare h vs b o $ move ! (1 ∷ []) $
-          peeks ! R (Is R) (shows 𝓤 H A R) h (vals h) (λ is. drop ! $
-          use1 W (‵ (fat fullShare τR b o (LL.val T L h))) (W .laws .raw-at fullShare τR b o (LL.val T L h)) $
-          check ! is $ done !))
-
       module _ (h : T .D) (a : Values 0 tt ps) (isR : Is R h (vals h)) (is : Known 0 tt ps a) where
         abbrev Post : Val → SProp 𝓤
         Post = walkOf 𝓤 H A ended stayed (clauses 𝓤 need) .post ((tt, tt, tt, (h, a), (vals h, lists 0 tt ps a)), tt)
@@ -272,7 +251,7 @@ module _ (T : Declared) (L : LL.Laws T) (ps : List Data) (S D : Data) (ν : Sym)
               (from-at ! (after-env ps bs (rest l₂ l₃ l₄ l₅) 2) (stop !))
               (init ! 3 refl (tt, tt)) $
               -- the state is lent, for a lifetime α of the call
-              move ! (7 ∷ []) $ use1 W (‵ (mem R .lies h l₂ 0)) (lies-in h l₂ 0 isR) $
+              move ! (7 ∷ []) $ use1 W (‵ (mem R .lies h l₂ 0)) (lies-in T L plainR 𝓤 H A W h l₂ 0 isR) $
               lft-new ! tt (λ α. move ! (1 ∷ []) $
               use1 W
               (later (some (λ (δ : GName).
@@ -308,7 +287,7 @@ module _ (T : Declared) (L : LL.Laws T) (ps : List Data) (S D : Data) (ν : Sym)
               split ! $ lft-end ! tt $ move ! (0 ∷ 4 ∷ 2 ∷ []) $
               use3 W (later (‵ (mem R .lies (ws .0) l₂ 0))) (ref-back 𝓤 H A W R (α ∷ []) δ (ws .0) l₂ 0) $ await ! tt $
               use1 W (given (Is R (ws .0) (vals (ws .0))) (‵ (fat fullShare τR l₂ 0 (LL.val T L (ws .0)))))
-              (lies-out (ws .0) l₂ 0) $ learn ! (λ isR′.
+              (lies-out T L plainR 𝓤 H A W (ws .0) l₂ 0) $ learn ! (λ isR′.
               -- [the state; …; …; ps; room at exit; …; the reference; …; the answer; …; …; s; …; room for the
               -- result; …]
               assigns !
