@@ -1,0 +1,22 @@
+-- `tracker::readings::owed_of` meets its contract: by the law `reads`, from what `owed` ensures. Assumes nothing.
+use mathlib.Core.Path.{_≡_}
+use mathlib.Core.List.{[], _∷_}
+use mir.Syntax.{w32}
+use contract.Monad.{fact}
+use Rattle.rule.specs.View.{view, MadeRun}
+use Rattle.rule.specs.Readings.{owedOf}
+use Rattle.replay.specs.Answers.{ticksTold}
+use Rattle.walk_laws.proofs.Data.{number}
+use Rattle.replay.proofs.readings.owed.Symbol as by-value
+use Rattle.replay.proofs.readings.owed.Met.{met}
+use Rattle.tracker.proofs.Lent.{reads, task-ticks}
+use Rattle.tracker.proofs.readings.owed_of.Key.{name}
+use Rattle.tracker.proofs.readings.owed_of.Statement.{statement}
+use Rattle.tracker.proofs.readings.owed_of.Code as code
+
+pub owed-of-spec : {M : Type 1} → statement M
+unfolding code.routine
+owed-of-spec 𝓤 H 𝓜 𝓖 𝓡 =
+    reads (number w32 ∷ []) task-ticks (λ h a r. ticksTold r ≡ owedOf (view h) (a .0))
+    𝓤 H 𝓜 𝓖 𝓡 (λ h a. fact 𝓤 (MadeRun h)) code.env name by-value.name
+    (code.unfolded 𝓤 H 𝓜 𝓡) by-value.routine code.calls-replay·readings·owed (met 𝓤 H 𝓜 𝓖 𝓡)

@@ -1,0 +1,8 @@
+pub mod Data
+pub mod Parameters
+mod Passing
+pub mod Calling
+mod Lying
+pub mod InPlace
+pub mod Peek
+pub mod Through
