@@ -12,6 +12,7 @@ use Rattle.log.specs.Records.{askedTimes, rowAt}
 use Rattle.log.specs.declared.Found.{Found}
 use Rattle.log.specs.declared.Found.the-variants.{Row, End}
 use Rattle.log.specs.declared.Record.{Record}
+use Rattle.reader.specs.declared.Reader.{Reader}
 use Rattle.reader.specs.declared.Taken.{Taken}
 
 -- ---- places: record r of block b, both counted from 0
@@ -44,3 +45,43 @@ pub record Reached (log : List ℕ) (b r : ℕ) : Type 0 where
 -- "made by .. opening and calls on it": a refused opening leaves the reader at block 0, where it finds no record
 abbrev pub Stands : List ℕ → ℕ → ℕ → Type 0
 Stands log b r = 0 < b → Reached log b r
+
+-- ---- the reader
+
+-- where reading begins, by the log's verdict
+abbrev pub firstBlock : Verdict → ℕ
+firstBlock accepted = 1
+firstBlock (refused n i) = 0
+
+-- the reader that an opening gives, on the caller's own bytes
+abbrev pub opened : RefT (List ℕ) → Reader
+opened log = record { log = log; block = firstBlock (judged (now log)); «record» = 0 }
+
+abbrev pub Standing : Reader → Type 0
+Standing r = Stands (now (r .log)) (r .block) (r .«record»)
+
+abbrev pub takenBy : Reader → Taken
+takenBy r = takenAt (now (r .log)) (r .block) (r .«record»)
+
+-- the reader on the same bytes, at the place after
+abbrev pub moved : Reader → Reader
+moved r = record { log = r .log; block = takenBy r .block; «record» = takenBy r .«record» }
+
+-- the first record of a log; none of a refused one
+abbrev pub firstFound : List ℕ → Found
+firstFound log = takenAt log (firstBlock (judged log)) 0 .found
+
+-- ---- reading on
+
+-- what n steps find
+unfoldable pub nexts : List ℕ → ℕ → ℕ → ℕ → List Found
+nexts log b r zero = []
+nexts log b r (suc n) = takenAt log b r .found ∷ nexts log (takenAt log b r .block) (takenAt log b r .«record») n
+
+-- rows as a reader finds them
+unfoldable pub foundRows : List Call → List Found
+foundRows [] = []
+foundRows (request time task amount ∷ cs) =
+    Row (record { time = time; task = task; amount = amount }) ∷ foundRows cs
+foundRows (advance time ∷ cs) = foundRows cs
+foundRows (drain ∷ cs) = foundRows cs

@@ -1,8 +1,10 @@
 // The reader of a log: it stays on the caller's bytes and knows its next record. The work is done by `take_at`, on the
 // bytes and two numbers; over the struct stand thin calls.
 ghost use mathlib.Core.Path.{_≡_};
-ghost use Rattle.reader.specs.Reading.{takenAt, Stands};
+ghost use Rattle.log.specs.Log.{told, judged};
+ghost use Rattle.reader.specs.Reading.{takenAt, Stands, firstBlock, opened, Standing, takenBy, moved, firstFound};
 use log::Found;
+use log::Judged;
 use log::Record;
 use words::word_at;
 
@@ -49,5 +51,104 @@ pub fn take_at(log: &[u8], block: usize, record: usize) -> Taken
         found,
         block,
         record: record + 1,
+    }
+}
+
+// What a log is judged to be, and the block at which its reading begins.
+pub struct Start {
+    pub verdict: Judged,
+    pub block: usize,
+}
+
+// Judges the whole log. Reading begins at block 1, or at block 0, which has no records, where the log is refused.
+pub fn start_of(log: &[u8]) -> Start
+    ensures { λ r. ⌜ (told (r .verdict) ≡ judged (now (log .entry))) × (r .block ≡ firstBlock (judged (now (log .entry)))) ⌝ }
+{
+    let verdict = log::judge(log);
+    match verdict {
+        Judged::Accepted => Start { verdict, block: 1 },
+        Judged::Refused {
+            number: _,
+            block: _,
+        } => Start { verdict, block: 0 },
+    }
+}
+
+// A reader on the caller's log, before record `record` of block `block`.
+pub struct Reader<'a> {
+    pub log: &'a [u8],
+    pub block: usize,
+    pub record: usize,
+}
+
+// What a log is judged to be, and a reader on it.
+pub struct Opened<'a> {
+    pub verdict: Judged,
+    pub reader: Reader<'a>,
+}
+
+// Opens a log: judges it whole. On a refused log the reader finds no record.
+pub fn open_log<'a>(log: &'a [u8]) -> Opened<'a>
+    ensures { λ r. ⌜ (told (r .verdict) ≡ judged (now (log .entry))) × (r .reader ≡ opened (log .entry)) ⌝ }
+{
+    let start = start_of(log);
+    Opened {
+        verdict: start.verdict,
+        reader: Reader {
+            log,
+            block: start.block,
+            record: 0,
+        },
+    }
+}
+
+// The reader's next record, or that there is none; the reader stays.
+pub fn peek<'a>(reader: Reader<'a>) -> Found
+    requires { ⌜ Standing reader ⌝ }
+    ensures { λ r. ⌜ r ≡ takenBy (reader .entry) .found ⌝ }
+{
+    let taken = take_at(reader.log, reader.block, reader.record);
+    taken.found
+}
+
+// The reader's next record, which it passes; after the last, that there is none, and it stays.
+pub fn next<'s, 'a>(reader: &'s mut Reader<'a>) -> Found
+    requires { ⌜ Standing (now reader) ⌝ }
+    ensures { λ r. ⌜ (r ≡ takenBy (now (reader .entry)) .found) × (now (reader .exit) ≡ moved (now (reader .entry))) ⌝ }
+{
+    let taken = take_at(reader.log, reader.block, reader.record);
+    reader.block = taken.block;
+    reader.record = taken.record;
+    taken.found
+}
+
+// What a log is judged to be, and its first record.
+pub struct First {
+    pub verdict: Judged,
+    pub found: Found,
+}
+
+// Opens a log and looks at its first record.
+pub fn first_row(log: &[u8]) -> First
+    ensures { λ r. ⌜ (told (r .verdict) ≡ judged (now (log .entry))) × (r .found ≡ firstFound (now (log .entry))) ⌝ }
+{
+    let opened = open_log(log);
+    First {
+        verdict: opened.verdict,
+        found: peek(opened.reader),
+    }
+}
+
+// `take_at` by a reader that is lent to `next`.
+pub fn taken_through(log: &[u8], block: usize, record: usize) -> Taken
+    requires { ⌜ Stands (now log) block «record» ⌝ }
+    ensures { λ r. ⌜ r ≡ takenAt (now (log .entry)) block «record» ⌝ }
+{
+    let mut reader = Reader { log, block, record };
+    let found = next(&mut reader);
+    Taken {
+        found,
+        block: reader.block,
+        record: reader.record,
     }
 }
