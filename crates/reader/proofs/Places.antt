@@ -41,7 +41,8 @@ module _ (log : List ℕ) (b r : ℕ) (low : 0 < b) (s : Reached log b r) where
     some : length (askedTimes log) ≡ 41 * (blocks log - 1 - 1) + word log (512 * (blocks log - 1) + 4)
     some = column-some log (s .reads) 0 (omega arith)
 
-    counted : (i : ℕ) → 0 < i → i < blocks log → (1 ≤ word log (512 * i + 4)) × (i + 1 < blocks log → word log (512 * i + 4) ≡ 41)
+    counted : (i : ℕ) → 0 < i → i < blocks log → (1 ≤ word log (512 * i + 4)) × (i + 1 < blocks log
+        → word log (512 * i + 4) ≡ 41)
     counted i g l =
         let c = accepted-counted log (s .reads) i g l in
         let e = word-block log i 4 (omega arith) in
@@ -75,22 +76,23 @@ pub taken-none : (log : List ℕ) (b r : ℕ) → hasRow log b r ≡ false
 unfolding takenAt
 taken-none log b r h = rw h
 
-module _ (log : List ℕ) (b r : ℕ) (low : 0 < b) (s : Reached log b r) (h : rowNumber b r < length (askedTimes log)) where
-  pub row-taken : (t k m : ℕ) → t ≡ word log (512 * b + 8 + 12 * r) → k ≡ word log (512 * b + 8 + 12 * r + 4)
-      → m ≡ word log (512 * b + 8 + 12 * r + 8)
-      → record { time = t; task = k; amount = m } ≡ rowAt log (rowNumber b r)
-  row-taken t k m et ek em =
-      row-here log (s .reads) (rowNumber b r) t k m h
-      (et ∙ ap (word log) (omega (arith, s .few)))
-      (ek ∙ ap (word log) (omega (arith, s .few)))
-      (em ∙ ap (word log) (omega (arith, s .few)))
+module _ (log : List ℕ) (b r : ℕ) (low : 0 < b) (s : Reached log b r) (h : rowNumber b r < length (askedTimes log))
+  where
+    pub row-taken : (t k m : ℕ) → t ≡ word log (512 * b + 8 + 12 * r) → k ≡ word log (512 * b + 8 + 12 * r + 4)
+        → m ≡ word log (512 * b + 8 + 12 * r + 8)
+        → record { time = t; task = k; amount = m } ≡ rowAt log (rowNumber b r)
+    row-taken t k m et ek em =
+        row-here log (s .reads) (rowNumber b r) t k m h
+        (et ∙ ap (word log) (omega (arith, s .few)))
+        (ek ∙ ap (word log) (omega (arith, s .few)))
+        (em ∙ ap (word log) (omega (arith, s .few)))
 
-  pub taken-last : (x : Record) → x ≡ rowAt log (rowNumber b r) → r ≡ 40
-      → record { found = Row x; block = b + 1; «record» = 0 } ≡ takenAt log b r
-  unfolding takenAt
-  taken-last x e q = rw (e, has-row-true log b r low h, eq-eqb r 40 q)
+    pub taken-last : (x : Record) → x ≡ rowAt log (rowNumber b r) → r ≡ 40
+        → record { found = Row x; block = b + 1; «record» = 0 } ≡ takenAt log b r
+    unfolding takenAt
+    taken-last x e q = rw (e, has-row-true log b r low h, eq-eqb r 40 q)
 
-  pub taken-next : (x : Record) → x ≡ rowAt log (rowNumber b r) → (r ≡ 40 → ⊥)
-      → record { found = Row x; block = b; «record» = r + 1 } ≡ takenAt log b r
-  unfolding takenAt
-  taken-next x e q = rw (e, has-row-true log b r low h, ne-eqb r 40 q)
+    pub taken-next : (x : Record) → x ≡ rowAt log (rowNumber b r) → (r ≡ 40 → ⊥)
+        → record { found = Row x; block = b; «record» = r + 1 } ≡ takenAt log b r
+    unfolding takenAt
+    taken-next x e q = rw (e, has-row-true log b r low h, ne-eqb r 40 q)

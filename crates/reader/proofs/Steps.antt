@@ -72,7 +72,14 @@ taking log b r low s =
     (λ e.
     let l = ltb-false n rows e in
     rw (le-leb 1 b low, e)
-    (record { finds = rw e; past-zero = low; reached = s; goes = λ h. absurd (omega arith); stays = λ _. (refl, refl) }))
+    (record {
+      finds = rw e;
+      past-zero = low;
+      reached = s;
+      goes = λ h. absurd (omega arith);
+      stays = λ _.
+          (refl, refl);
+    }))
 
 -- "and stays"
 pub taken-stands : (log : List ℕ) (b r : ℕ) → Stands log b r

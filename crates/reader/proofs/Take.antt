@@ -1,6 +1,7 @@
 -- What the walks over a `Reader` share: the struct's type, the call of `take_at`, and the parts of what it returns.
 --     B                the struct's type, at a lifetime.        slice-of      the machine value of a slice
---     TakeAt           the contract of `take_at`, which the walks cite.        to, asked, said      its call: what it is passed, that what a slice owns gives what it asks, and what it says of its result
+-- TakeAt the contract of `take_at`, which the walks cite. to, asked, said its call: what it is passed, that what a
+-- slice owns gives what it asks, and what it says of its result
 --     rowD             the laws of `Taken`.        found-is, block-fits, record-fits      what is known of its parts
 --     apart            what the struct owns, had twice: what `take_at` asks, and the struct
 --     put-both         what the struct owns, with two other numbers
@@ -19,7 +20,8 @@ use prog.Routine.{Routine}
 use prog.Wp.{Heap}
 use ghost.Atoms.{Atoms, sem}
 use contract.Monad.{Fun, fact}
-use types.Kit.{Given, ‵, raw, _⊛_, given, ⋆, _$_, _∵_, !, qed, by, move, drop, use1, use2, split, join, learn, fjoin, frame, done}
+use types.Kit.{Given, ‵, raw, _⊛_, given, ⋆, _$_, _∵_, !, qed, by, move, drop, use1, use2, split, join, learn, fjoin}
+use types.Kit.{frame, done}
 use denote.RattleType.{RattleType}
 use denote.Laws.{Is}
 use denote.Plain.{uint-makes}
@@ -57,7 +59,8 @@ slice-of s = sliceVal (s .ptr) (length (s .now))
 abbrev pub rowD : Data
 rowD = struct D.the-type D′.the-laws D′.the-plain (λ x. tt) (λ x f. refl)
 
-pub found-is : (d : Taken) (vs : List Val) → Is D.the-row d vs → Is S.the-row (d .found) (EL.vals S.the-type S′.the-laws (d .found))
+pub found-is : (d : Taken) (vs : List Val) → Is D.the-row d vs → Is S.the-row (d .found)
+    (EL.vals S.the-type S′.the-laws (d .found))
 found-is d vs is = LL.owed D.the-type D′.the-laws d vs is .0
 
 pub block-fits : (d : Taken) (vs : List Val) → Is D.the-row d vs → d .block < 2 ^ 64
@@ -71,18 +74,27 @@ module _ {M : Type 1} (𝓤 : URA M) (H : Heap 𝓤) (A : Atoms 𝓤) (mem : Mem
   abbrev pub TakeAt : Contract 𝓤
   TakeAt = tripleOf 𝓤 H A take.signature (take.spec 𝓤 H A mem run)
 
-module _ {M : Type 1} (𝓤 : URA M) (H : Heap 𝓤) (A : Atoms 𝓤) (W : Given 𝓤 H A) (mem : Memory → SProp 𝓤) (run : Routine → Fun 𝓤) (κ : Lft) (q : Share) where
+module _ {M : Type 1} (𝓤 : URA M) (H : Heap 𝓤) (A : Atoms 𝓤) (W : Given 𝓤 H A) (mem : Memory → SProp 𝓤) (run : Routine
+    → Fun 𝓤) (κ : Lft) (q : Share) where
   module _ (s : RefT (List ℕ)) (b r : ℕ) where
     abbrev pub to : TakeAt 𝓤 H A mem run .Ghost
     to = (((κ, tt), (q, tt), tt, (s, (b, (r, tt))), (slice-of s ∷ [], (vint w64 b ∷ [], (vint w64 r ∷ [], tt)))), tt)
 
-    pub asked : Stands (now s) b r → b < 2 ^ 64 → r < 2 ^ 64 → ent 𝓤 (⋆ 𝓤 H A (‵ (ShrSlice (named 0) κ u8 .own s (slice-of s ∷ [])) ∷ (‵ (flft κ q) ⊛ ‵ ftrue) ∷ [])) (TakeAt 𝓤 H A mem run .pre to)
+    pub asked : Stands (now s) b r → b < 2 ^ 64 → r < 2 ^ 64
+        → ent 𝓤 (⋆ 𝓤 H A (‵ (ShrSlice (named 0) κ u8 .own s (slice-of s ∷ [])) ∷ (‵ (flft κ q) ⊛ ‵ ftrue) ∷ []))
+        (TakeAt 𝓤 H A mem run .pre to)
     asked stands b-fits r-fits =
-        qed W (‵ (ShrSlice (named 0) κ u8 .own s (slice-of s ∷ [])) ∷ (‵ (flft κ q) ⊛ ‵ ftrue) ∷ []) ∵ says ! stands $ move ! (1 ∷ 0 ∷ []) $ frame ! $ nothing ! $ owned ! usize (Is usize) (uint-makes 𝓤 H A W w64) r _ (refl, r-fits) $ fjoin ! $
-        owned ! usize (Is usize) (uint-makes 𝓤 H A W w64) b _ (refl, b-fits) $ fjoin ! $ move ! (1 ∷ 0 ∷ []) $ fjoin ! $ done !
+        qed W (‵ (ShrSlice (named 0) κ u8 .own s (slice-of s ∷ [])) ∷ (‵ (flft κ q) ⊛ ‵ ftrue) ∷ []) ∵ says ! stands $
+        move ! (1 ∷ 0 ∷ []) $ frame ! $ nothing ! $ owned ! usize (Is usize) (uint-makes 𝓤 H A W w64) r _
+        (refl, r-fits) $ fjoin ! $
+        owned ! usize (Is usize) (uint-makes 𝓤 H A W w64) b _ (refl, b-fits) $ fjoin ! $ move ! (1 ∷ 0 ∷ []) $
+        fjoin ! $ done !
 
-    pub said : (d : Taken) → ent 𝓤 (ensured 𝓤 H A take.ended (take.clauses 𝓤 H A mem run) (κ, tt) (s, (b, (r, tt))) tt d) (fact 𝓤 (d ≡ takenAt (now s) b r))
-    said d = exE 𝓤 _ (λ ws. snd∗ 𝓤 (sem 𝓤 H A (lasts take.ended (κ, tt) (s, (b, (r, tt))) ws)) (fact 𝓤 (d ≡ takenAt (now s) b r)))
+    pub said : (d : Taken) → ent 𝓤 (ensured 𝓤 H A take.ended (take.clauses 𝓤 H A mem run) (κ, tt) (s, (b, (r, tt))) tt
+        d) (fact 𝓤 (d ≡ takenAt (now s) b r))
+    said d =
+        exE 𝓤 _ (λ ws. snd∗ 𝓤 (sem 𝓤 H A (lasts take.ended (κ, tt) (s, (b, (r, tt))) ws))
+        (fact 𝓤 (d ≡ takenAt (now s) b r)))
 
   -- ---- the struct, at a name ℓ of its lifetime κ
   module _ (ℓ : Lifetime) (d : Reader) where
@@ -96,18 +108,31 @@ module _ {M : Type 1} (𝓤 : URA M) (H : Heap 𝓤) (A : Atoms 𝓤) (W : Given
     abbrev pub at-place : ℕ → ℕ → Reader
     at-place b r = record { log = d .log; block = b; «record» = r }
 
-    pub put-both : (b r : ℕ) → b < 2 ^ 64 → r < 2 ^ 64 → ent 𝓤 (sem 𝓤 H A Own) (sem 𝓤 H A (B α .own (at-place b r) (T′.lowered (at-place b r) ∷ [])))
+    pub put-both : (b r : ℕ) → b < 2 ^ 64 → r < 2 ^ 64 → ent 𝓤 (sem 𝓤 H A Own) (sem 𝓤 H A (B α .own (at-place b r)
+        (T′.lowered (at-place b r) ∷ [])))
     put-both b r b-fits r-fits =
-        qed W (‵ Own ∷ []) ∵ owned ! usize (Is usize) (uint-makes 𝓤 H A W w64) b _ (refl, b-fits) $ move ! (1 ∷ 0 ∷ []) $
-        use2 W (‵ (B α .own (at-place b (d .«record»)) (T′.lowered (at-place b (d .«record»)) ∷ []))) (own-put 𝓤 H A W (T.the-type α) (T′.the-laws α) 1 (d .log, (d .block, (d .«record», tt))) b (T′.lowered d)) $
+        qed W (‵ Own ∷ []) ∵ owned ! usize (Is usize) (uint-makes 𝓤 H A W w64) b _ (refl, b-fits) $
+        move ! (1 ∷ 0 ∷ []) $
+        use2 W (‵ (B α .own (at-place b (d .«record»)) (T′.lowered (at-place b (d .«record»)) ∷ []))) (own-put 𝓤 H A W
+        (T.the-type α) (T′.the-laws α) 1 (d .log, (d .block, (d .«record», tt))) b (T′.lowered d)) $
         owned ! usize (Is usize) (uint-makes 𝓤 H A W w64) r _ (refl, r-fits) $ move ! (1 ∷ 0 ∷ []) $
-        by ! (own-put 𝓤 H A W (T.the-type α) (T′.the-laws α) 2 (d .log, (b, (d .«record», tt))) r (T′.lowered (at-place b (d .«record»))))
+        by ! (own-put 𝓤 H A W (T.the-type α) (T′.the-laws α) 2 (d .log, (b, (d .«record», tt))) r
+        (T′.lowered (at-place b (d .«record»))))
 
     -- what the struct owns gives what the callee asks, and is kept
-    pub apart : Stands (now (d .log)) (d .block) (d .«record») → d .block < 2 ^ 64 → d .«record» < 2 ^ 64 → ent 𝓤 (⋆ 𝓤 H A (‵ Own ∷ (‵ (flft κ q) ⊛ ‵ ftrue) ∷ [])) (sep 𝓤 (TakeAt 𝓤 H A mem run .pre (to (d .log) (d .block) (d .«record»))) (sem 𝓤 H A Own))
+    pub apart : Stands (now (d .log)) (d .block) (d .«record») → d .block < 2 ^ 64 → d .«record» < 2 ^ 64
+        → ent 𝓤 (⋆ 𝓤 H A (‵ Own ∷ (‵ (flft κ q) ⊛ ‵ ftrue) ∷ [])) (sep 𝓤 (TakeAt 𝓤 H A mem run .pre (to (d .log)
+        (d .block) (d .«record»))) (sem 𝓤 H A Own))
     apart stands b-fits r-fits =
-        qed W (‵ Own ∷ (‵ (flft κ q) ⊛ ‵ ftrue) ∷ []) ∵ use1 W (‵ Own ⊛ ‵ Own) (LL.copy (T.the-type α) (T′.the-copy α) 𝓤 H A W .twice d (T′.lowered d ∷ [])) $ split ! $
-        use1 W (given (T′.lowered d ∷ [] ≡ T′.lowered d ∷ []) (‵ (all-own (T.the-type α .parts) (T′.the-laws α) (d .log, (d .block, (d .«record», tt)))))) (own-open 𝓤 H A W (T.the-type α) (T′.the-laws α) (d .log, (d .block, (d .«record», tt))) (T′.lowered d)) $ learn ! (λ _.
-        use1 W (‵ (ownAt (T.the-type α .parts) (T′.the-laws α) 0 (d .log)) ⊛ ‵ (rest (T.the-type α .parts) (T′.the-laws α) 0 (d .log, (d .block, (d .«record», tt))))) (own-out 𝓤 H A W (T.the-type α .parts) (T′.the-laws α) 0 (d .log, (d .block, (d .«record», tt)))) $ split ! $
+        qed W (‵ Own ∷ (‵ (flft κ q) ⊛ ‵ ftrue) ∷ []) ∵ use1 W (‵ Own ⊛ ‵ Own) (LL.copy (T.the-type α) (T′.the-copy α)
+        𝓤 H A W .twice d (T′.lowered d ∷ [])) $ split ! $
+        use1 W (given (T′.lowered d ∷ [] ≡ T′.lowered d ∷ []) (‵ (all-own (T.the-type α .parts) (T′.the-laws α)
+        (d .log, (d .block, (d .«record», tt)))))) (own-open 𝓤 H A W (T.the-type α) (T′.the-laws α)
+        (d .log, (d .block, (d .«record», tt))) (T′.lowered d)) $ learn ! (λ _.
+        use1 W (‵ (ownAt (T.the-type α .parts) (T′.the-laws α) 0 (d .log)) ⊛ ‵ (rest (T.the-type α .parts)
+        (T′.the-laws α) 0 (d .log, (d .block, (d .«record», tt))))) (own-out 𝓤 H A W (T.the-type α .parts)
+        (T′.the-laws α) 0 (d .log, (d .block, (d .«record», tt)))) $ split ! $
         -- [what log owns; what the numbers own; what the struct owns; the token]
-        move ! (1 ∷ []) $ drop ! $ move ! (0 ∷ 2 ∷ []) $ use2 W (raw (TakeAt 𝓤 H A mem run .pre (to (d .log) (d .block) (d .«record»)))) (asked (d .log) (d .block) (d .«record») stands b-fits r-fits) $ frame ! $ done !)
+        move ! (1 ∷ []) $ drop ! $ move ! (0 ∷ 2 ∷ []) $
+        use2 W (raw (TakeAt 𝓤 H A mem run .pre (to (d .log) (d .block) (d .«record»)))) (asked (d .log) (d .block)
+        (d .«record») stands b-fits r-fits) $ frame ! $ done !)

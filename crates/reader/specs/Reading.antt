@@ -12,7 +12,10 @@ use Rattle.log.specs.Records.{askedTimes, rowAt}
 use Rattle.log.specs.declared.Found.{Found}
 use Rattle.log.specs.declared.Found.the-variants.{Row, End}
 use Rattle.log.specs.declared.Record.{Record}
+use Rattle.reader.specs.declared.First.{First}
+use Rattle.reader.specs.declared.Opened.{Opened}
 use Rattle.reader.specs.declared.Reader.{Reader}
+use Rattle.reader.specs.declared.Start.{Start}
 use Rattle.reader.specs.declared.Taken.{Taken}
 
 -- ---- places: record r of block b, both counted from 0
@@ -53,9 +56,15 @@ abbrev pub firstBlock : Verdict → ℕ
 firstBlock accepted = 1
 firstBlock (refused n i) = 0
 
+abbrev pub Started : List ℕ → Start → Type 0
+Started log s = (told (s .verdict) ≡ judged log) × (s .block ≡ firstBlock (judged log))
+
 -- the reader that an opening gives, on the caller's own bytes
 abbrev pub opened : RefT (List ℕ) → Reader
 opened log = record { log = log; block = firstBlock (judged (now log)); «record» = 0 }
+
+abbrev pub OpenedOn : RefT (List ℕ) → Opened → Type 0
+OpenedOn log o = (told (o .verdict) ≡ judged (now log)) × (o .reader ≡ opened log)
 
 abbrev pub Standing : Reader → Type 0
 Standing r = Stands (now (r .log)) (r .block) (r .«record»)
@@ -67,9 +76,15 @@ takenBy r = takenAt (now (r .log)) (r .block) (r .«record»)
 abbrev pub moved : Reader → Reader
 moved r = record { log = r .log; block = takenBy r .block; «record» = takenBy r .«record» }
 
+abbrev pub Stepped : Reader → Found → Reader → Type 0
+Stepped r f after = (f ≡ takenBy r .found) × (after ≡ moved r)
+
 -- the first record of a log; none of a refused one
 abbrev pub firstFound : List ℕ → Found
 firstFound log = takenAt log (firstBlock (judged log)) 0 .found
+
+abbrev pub FirstOf : List ℕ → First → Type 0
+FirstOf log f = (told (f .verdict) ≡ judged log) × (f .found ≡ firstFound log)
 
 -- ---- reading on
 

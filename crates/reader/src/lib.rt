@@ -1,8 +1,7 @@
 // The reader of a log: it stays on the caller's bytes and knows its next record. The work is done by `take_at`, on the
 // bytes and two numbers; over the struct stand thin calls.
 ghost use mathlib.Core.Path.{_≡_};
-ghost use Rattle.log.specs.Log.{told, judged};
-ghost use Rattle.reader.specs.Reading.{takenAt, Stands, firstBlock, opened, Standing, takenBy, moved, firstFound};
+ghost use Rattle.reader.specs.Reading.{takenAt, Stands, Started, OpenedOn, Standing, takenBy, Stepped, FirstOf};
 use log::Found;
 use log::Judged;
 use log::Record;
@@ -62,7 +61,7 @@ pub struct Start {
 
 // Judges the whole log. Reading begins at block 1, or at block 0, which has no records, where the log is refused.
 pub fn start_of(log: &[u8]) -> Start
-    ensures { λ r. ⌜ (told (r .verdict) ≡ judged (now (log .entry))) × (r .block ≡ firstBlock (judged (now (log .entry)))) ⌝ }
+    ensures { λ r. ⌜ Started (now (log .entry)) r ⌝ }
 {
     let verdict = log::judge(log);
     match verdict {
@@ -89,7 +88,7 @@ pub struct Opened<'a> {
 
 // Opens a log: judges it whole. On a refused log the reader finds no record.
 pub fn open_log<'a>(log: &'a [u8]) -> Opened<'a>
-    ensures { λ r. ⌜ (told (r .verdict) ≡ judged (now (log .entry))) × (r .reader ≡ opened (log .entry)) ⌝ }
+    ensures { λ r. ⌜ OpenedOn (log .entry) r ⌝ }
 {
     let start = start_of(log);
     Opened {
@@ -114,7 +113,7 @@ pub fn peek<'a>(reader: Reader<'a>) -> Found
 // The reader's next record, which it passes; after the last, that there is none, and it stays.
 pub fn next<'s, 'a>(reader: &'s mut Reader<'a>) -> Found
     requires { ⌜ Standing (now reader) ⌝ }
-    ensures { λ r. ⌜ (r ≡ takenBy (now (reader .entry)) .found) × (now (reader .exit) ≡ moved (now (reader .entry))) ⌝ }
+    ensures { λ r. ⌜ Stepped (now (reader .entry)) r (now (reader .exit)) ⌝ }
 {
     let taken = take_at(reader.log, reader.block, reader.record);
     reader.block = taken.block;
@@ -130,7 +129,7 @@ pub struct First {
 
 // Opens a log and looks at its first record.
 pub fn first_row(log: &[u8]) -> First
-    ensures { λ r. ⌜ (told (r .verdict) ≡ judged (now (log .entry))) × (r .found ≡ firstFound (now (log .entry))) ⌝ }
+    ensures { λ r. ⌜ FirstOf (now (log .entry)) r ⌝ }
 {
     let opened = open_log(log);
     First {

@@ -34,7 +34,8 @@ few : (c : tie.Else2) → c .before .before .before .args .block ≤ 26
 few c = block-few _ _ _ (low c) (reached c)
 
 row : (c : tie.Else3)
-    → rowNumber (c .before .before .before .before .before .args .block) (c .before .before .before .before .before .args .«record»)
+    → rowNumber (c .before .before .before .before .before .args .block) (c .before .before .before .before .before
+    .args .«record»)
     < length (askedTimes (now (c .before .before .before .before .before .args .log)))
 row c =
     has-row-counted _ _ _ (low (c .before .before)) (reached (c .before .before)) (inside (c .before .before))
