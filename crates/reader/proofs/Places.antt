@@ -1,0 +1,98 @@
+-- Laws of the places of a log that reads. In order: whether a record is at a place; what is taken there. Assumes
+-- nothing.
+use Prim.Native.Nat.{ℕ, _+_, _*_, _-_, _≤_, _<_}
+use native.Mathlib.Omega.{arith}
+use mathlib.Core.Path.{_≡_, ap, _∙_}
+use mathlib.Core.Bool.{Bool, true, false, cond}
+use mathlib.Core.List.{List}
+use lib.ListN.{length}
+use lib.Dec.{eqb}
+use borrow.Author.Tests.{lt-ltb, le-ltb, lt-leb, le-leb, eq-eqb, ne-eqb}
+use Rattle.lists.proofs.Testing.{equal-or}
+use Rattle.words.specs.Words.{word}
+use Rattle.log.specs.Blocks.{blocks, block, count}
+use Rattle.log.specs.Log.{Reads}
+use Rattle.log.specs.Records.{askedTimes, rowAt}
+use Rattle.log.specs.declared.Found.{Found}
+use Rattle.log.specs.declared.Found.the-variants.{Row, End}
+use Rattle.log.specs.declared.Record.{Record}
+use Rattle.log.proofs.Blocks.{Counted}
+use Rattle.log.proofs.Accepted.{accepted-sized, accepted-counted, word-block}
+use Rattle.log.proofs.Rows.{column-blocks, column-most, column-some, row-here}
+use Rattle.reader.specs.Reading.{rowNumber, hasRow, takenAt, Reached, Stands}
+use Rattle.reader.specs.declared.Taken.{Taken}
+
+-- ---- whether a record is at a place
+
+has-row-true : (log : List ℕ) (b r : ℕ) → 0 < b → rowNumber b r < length (askedTimes log) → hasRow log b r ≡ true
+has-row-true log b r low h = rw (le-leb 1 b low, lt-ltb (rowNumber b r) (length (askedTimes log)) h)
+
+pub has-row-zero : (log : List ℕ) (b r : ℕ) → b ≡ 0 → hasRow log b r ≡ false
+has-row-zero log b r e = rw (lt-leb 1 b (omega arith))
+
+module _ (log : List ℕ) (b r : ℕ) (low : 0 < b) (s : Reached log b r) where
+  has-row-false : length (askedTimes log) ≤ rowNumber b r → hasRow log b r ≡ false
+  has-row-false h = rw (le-leb 1 b low, le-ltb (rowNumber b r) (length (askedTimes log)) h)
+
+  pub has-row-past : blocks log ≤ b → hasRow log b r ≡ false
+  has-row-past h = has-row-false (omega (arith, column-blocks 0 log (s .reads)))
+
+  module _ (h : b < blocks log) where
+    some : length (askedTimes log) ≡ 41 * (blocks log - 1 - 1) + word log (512 * (blocks log - 1) + 4)
+    some = column-some log (s .reads) 0 (omega arith)
+
+    counted : (i : ℕ) → 0 < i → i < blocks log → (1 ≤ word log (512 * i + 4)) × (i + 1 < blocks log
+        → word log (512 * i + 4) ≡ 41)
+    counted i g l =
+        let c = accepted-counted log (s .reads) i g l in
+        let e = word-block log i 4 (omega arith) in
+        (omega (arith, c .some), λ inner. omega (arith, c .full inner))
+
+    -- the last block's count is the number of rows after the blocks before it, and each other is full
+    pub count-before : {C : Type 0}
+        → (length (askedTimes log) ≡ 41 * (b - 1) + word log (512 * b + 4) → C)
+        → (word log (512 * b + 4) ≡ 41 → 41 * b < length (askedTimes log) → C) → C
+    count-before last inner =
+        equal-or b (blocks log - 1)
+        (λ e. last (rw e some))
+        (λ e.
+        let l : b + 1 < blocks log = omega arith in
+        inner (counted b low h .1 l)
+        (omega (arith, some, counted (blocks log - 1) (omega arith) (omega arith) .0)))
+
+    pub has-row-counted : r < word log (512 * b + 4) → rowNumber b r < length (askedTimes log)
+    has-row-counted g = count-before (λ e. omega arith) (λ e l. omega arith)
+
+    pub has-row-over : word log (512 * b + 4) ≤ r → hasRow log b r ≡ false
+    has-row-over g = count-before (λ e. has-row-false (omega arith)) (λ e l. absurd (omega (arith, s .few)))
+
+  pub block-few : b ≤ 26
+  block-few = omega (arith, s .inside, column-most 0 log (s .reads))
+
+-- ---- what is taken
+
+pub taken-none : (log : List ℕ) (b r : ℕ) → hasRow log b r ≡ false
+    → record { found = End; block = b; «record» = r } ≡ takenAt log b r
+unfolding takenAt
+taken-none log b r h = rw h
+
+module _ (log : List ℕ) (b r : ℕ) (low : 0 < b) (s : Reached log b r) (h : rowNumber b r < length (askedTimes log))
+  where
+    pub row-taken : (t k m : ℕ) → t ≡ word log (512 * b + 8 + 12 * r) → k ≡ word log (512 * b + 8 + 12 * r + 4)
+        → m ≡ word log (512 * b + 8 + 12 * r + 8)
+        → record { time = t; task = k; amount = m } ≡ rowAt log (rowNumber b r)
+    row-taken t k m et ek em =
+        row-here log (s .reads) (rowNumber b r) t k m h
+        (et ∙ ap (word log) (omega (arith, s .few)))
+        (ek ∙ ap (word log) (omega (arith, s .few)))
+        (em ∙ ap (word log) (omega (arith, s .few)))
+
+    pub taken-last : (x : Record) → x ≡ rowAt log (rowNumber b r) → r ≡ 40
+        → record { found = Row x; block = b + 1; «record» = 0 } ≡ takenAt log b r
+    unfolding takenAt
+    taken-last x e q = rw (e, has-row-true log b r low h, eq-eqb r 40 q)
+
+    pub taken-next : (x : Record) → x ≡ rowAt log (rowNumber b r) → (r ≡ 40 → ⊥)
+        → record { found = Row x; block = b; «record» = r + 1 } ≡ takenAt log b r
+    unfolding takenAt
+    taken-next x e q = rw (e, has-row-true log b r low h, ne-eqb r 40 q)

@@ -1,0 +1,47 @@
+-- No two outcomes satisfy a promise of the reader: an opening's verdict and reader, a step's record and the reader
+-- after
+-- it. Assumes nothing.
+use Prim.Native.Nat.{ℕ}
+use mathlib.Core.Path.{_≡_, sym, _∙_}
+use mathlib.Core.List.{List}
+use denote.Ref.{RefT, now}
+use Rattle.rule.specs.View.{Determined}
+use Rattle.log.specs.Log.{told, judged}
+use Rattle.log.specs.declared.Found.{Found}
+use Rattle.log.proofs.Unique.{told-determined}
+use Rattle.reader.specs.Reading.{Started, OpenedOn, Stepped, FirstOf}
+use Rattle.reader.specs.declared.First.{First}
+use Rattle.reader.specs.declared.Opened.{Opened}
+use Rattle.reader.specs.declared.Reader.{Reader}
+use Rattle.reader.specs.declared.Start.{Start}
+
+pub start-determined : (log : List ℕ)
+    → Determined (Started log)
+start-determined log x y p q =
+    λ i. record {
+      verdict = told-determined (judged log) (x .verdict) (y .verdict) (p .0) (q .0) i;
+      block =
+          (p .1 ∙ sym (q .1)) i;
+    }
+
+pub opened-determined : (log : RefT (List ℕ))
+    → Determined (OpenedOn log)
+opened-determined log x y p q =
+    λ i. record {
+      verdict =
+          told-determined (judged (now log)) (x .verdict) (y .verdict) (p .0) (q .0) i;
+      reader = (p .1 ∙ sym (q .1)) i;
+    }
+
+pub first-determined : (log : List ℕ)
+    → Determined (FirstOf log)
+first-determined log x y p q =
+    λ i. record {
+      verdict =
+          told-determined (judged log) (x .verdict) (y .verdict) (p .0) (q .0) i;
+      found = (p .1 ∙ sym (q .1)) i;
+    }
+
+pub next-determined : (reader : Reader)
+    → Determined (λ (r : Found × Reader). Stepped reader (r .0) (r .1))
+next-determined reader x y p q = λ i. ((p .0 ∙ sym (q .0)) i, (p .1 ∙ sym (q .1)) i)

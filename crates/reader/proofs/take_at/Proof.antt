@@ -1,0 +1,124 @@
+-- `reader::take_at` meets its contract: at a place that is reached the count of its block says whether a record is
+-- there. Assumes nothing.
+use native.Mathlib.Omega.{arith}
+use Prim.Native.Nat.{_≤_, _<_}
+use mathlib.Core.Path.{_≡_}
+use mathlib.Core.Logic.{⊎-elim}
+use borrow.Author.Needs.{needs}
+use borrow.Author.Tests.{leb-true, leb-false}
+use denote.Ref.{now}
+use lib.ListN.{length}
+use Rattle.log.specs.Blocks.{blocks}
+use Rattle.log.specs.Records.{askedTimes, rowAt}
+use Rattle.log.specs.declared.Record.{Record}
+use Rattle.reader.specs.Reading.{rowNumber, Reached}
+use Rattle.reader.proofs.Places.{has-row-zero, has-row-past, has-row-counted, has-row-over, block-few}
+use Rattle.reader.proofs.Places.{taken-none, row-taken, taken-last, taken-next}
+use Rattle.reader.proofs.take_at.Statement.{statement}
+use Rattle.reader.proofs.take_at.Tie as tie
+
+-- the places: past the test of the block; past that of its count
+low : (c : tie.Else2) → 0 < c .before .before .before .args .block
+low c = omega (arith, c .before .if1 .left)
+
+reached : (c : tie.Else2)
+    → Reached (now (c .before .before .before .args .log)) (c .before .before .before .args .block)
+    (c .before .before .before .args .«record»)
+reached c = c .before .before .before .pre (low c)
+
+inside : (c : tie.Else2)
+    → c .before .before .before .args .block < blocks (now (c .before .before .before .args .log))
+inside c = leb-false _ _ (c .if2 .left)
+
+few : (c : tie.Else2) → c .before .before .before .args .block ≤ 26
+few c = block-few _ _ _ (low c) (reached c)
+
+row : (c : tie.Else3)
+    → rowNumber (c .before .before .before .before .before .args .block) (c .before .before .before .before .before
+    .args .«record»)
+    < length (askedTimes (now (c .before .before .before .before .before .args .log)))
+row c =
+    has-row-counted _ _ _ (low (c .before .before)) (reached (c .before .before)) (inside (c .before .before))
+    (omega (arith, c .if3 .left, c .before .word-at .ensures))
+
+returns : tie.Need-returns
+returns c =
+    ⊎-elim
+    (λ p. taken-none _ _ _ (has-row-zero _ _ _ (p .taken)))
+    (λ p.
+    let some : 0 < c .before .before .args .block = omega (arith, p .0 .left) in
+    taken-none _ _ _ (has-row-past _ _ _ some (c .before .before .pre some) (leb-true _ _ (p .1 .taken))))
+    (c .if1 .came)
+
+mul-word-at : tie.Need-mul-word-at
+mul-word-at c = omega (arith, few c)
+
+add-word-at : tie.Need-add-word-at
+add-word-at c = omega (arith, few c)
+
+returns-2 : tie.Need-returns-2
+returns-2 c =
+    let p = c .before .before in
+    taken-none _ _ _
+    (has-row-over _ _ _ (low p) (reached p) (inside p)
+    (omega (arith, c .if3 .taken, c .before .word-at .ensures)))
+
+mul-place : tie.Need-mul-place
+mul-place c = omega (arith, few (c .before .before))
+
+add-place : tie.Need-add-place
+add-place c = omega (arith, few (c .before .before))
+
+add-place-2 : tie.Need-add-place-2
+add-place-2 c = omega (arith, few (c .before .before), reached (c .before .before) .few)
+
+add-word-at-2 : tie.Need-add-word-at-2
+add-word-at-2 c = let p = c .before .before .before in omega (arith, few p, reached p .few)
+
+add-word-at-3 : tie.Need-add-word-at-3
+add-word-at-3 c = let p = c .before .before .before .before in omega (arith, few p, reached p .few)
+
+add-t20 : tie.Need-add-t20
+add-t20 c = omega (arith, few (c .before .before .before .before .before .before))
+
+returns-3 : tie.Need-returns-3
+returns-3 c =
+    let w = c .before in
+    let p = w .before .before .before in
+    taken-last _ _ _ (low (p .before .before)) (reached (p .before .before)) (row p) _
+    (row-taken _ _ _ (low (p .before .before)) (reached (p .before .before)) (row p) _ _ _
+    (w .before .before .word-at2 .ensures) (w .before .word-at3 .ensures) (w .word-at4 .ensures))
+    (c .if4 .taken)
+
+returns-4 : tie.Need-returns-4
+returns-4 c =
+    let w = c .before in
+    let p = w .before .before .before in
+    taken-next _ _ _ (low (p .before .before)) (reached (p .before .before)) (row p) _
+    (row-taken _ _ _ (low (p .before .before)) (reached (p .before .before)) (row p) _ _ _
+    (w .before .before .word-at2 .ensures) (w .before .word-at3 .ensures) (w .word-at4 .ensures))
+    (c .if4 .left)
+
+pub take-at-spec : {M : Type 1} → statement M
+take-at-spec =
+    tie.close
+    (tie.spec
+    returns
+    mul-word-at
+    add-word-at
+    (λ c κs. search needs)
+    (λ c. search needs)
+    returns-2
+    mul-place
+    add-place
+    (λ c. search needs)
+    add-place-2
+    (λ c κs. search needs)
+    add-word-at-2
+    (λ c κs. search needs)
+    add-word-at-3
+    (λ c κs. search needs)
+    add-t20
+    returns-3
+    (λ c. search needs)
+    returns-4)

@@ -1,0 +1,102 @@
+-- Document 01, "The desk's log form": the reader, its opening and its steps. Assumes nothing.
+use Prim.Native.Nat.{ℕ, zero, suc, _+_, _*_, _-_, _≤_, _<_}
+use mathlib.Core.Path.{_≡_}
+use mathlib.Core.Bool.{Bool, cond, _&&_}
+use mathlib.Core.List.{List, [], _∷_}
+use lib.ListN.{length}
+use lib.Dec.{eqb, leb, ltb}
+use denote.Ref.{RefT, now}
+use Rattle.rule.specs.Calls.{Call, request, advance, drain}
+use Rattle.log.specs.Log.{Verdict, accepted, refused, told, judged, Reads}
+use Rattle.log.specs.Records.{askedTimes, rowAt}
+use Rattle.log.specs.declared.Found.{Found}
+use Rattle.log.specs.declared.Found.the-variants.{Row, End}
+use Rattle.log.specs.declared.Record.{Record}
+use Rattle.reader.specs.declared.First.{First}
+use Rattle.reader.specs.declared.Opened.{Opened}
+use Rattle.reader.specs.declared.Reader.{Reader}
+use Rattle.reader.specs.declared.Start.{Start}
+use Rattle.reader.specs.declared.Taken.{Taken}
+
+-- ---- places: record r of block b, both counted from 0
+
+-- "Each but the last has 41 records.": which row stands there, counted from 0
+abbrev pub rowNumber : ℕ → ℕ → ℕ
+rowNumber b r = 41 * (b - 1) + r
+
+-- block 0 has no records
+abbrev pub hasRow : List ℕ → ℕ → ℕ → Bool
+hasRow log b r = leb 1 b && ltb (rowNumber b r) (length (askedTimes log))
+
+-- "knows its next record; after the last it says that there is none, and stays"
+unfoldable pub takenAt : List ℕ → ℕ → ℕ → Taken
+takenAt log b r =
+    cond (hasRow log b r)
+    (record {
+      found = Row (rowAt log (rowNumber b r));
+      block = cond (eqb r 40) (b + 1) b;
+      «record» = cond (eqb r 40) 0 (r + 1);
+    })
+    (record { found = End; block = b; «record» = r })
+
+-- a place that is reached from the first record of a log that reads
+pub record Reached (log : List ℕ) (b r : ℕ) : Type 0 where
+  pub reads : Reads log
+  pub few : r < 41
+  pub inside : rowNumber b r ≤ length (askedTimes log)
+
+-- "made by .. opening and calls on it": a refused opening leaves the reader at block 0, where it finds no record
+abbrev pub Stands : List ℕ → ℕ → ℕ → Type 0
+Stands log b r = 0 < b → Reached log b r
+
+-- ---- the reader
+
+-- where reading begins, by the log's verdict
+abbrev pub firstBlock : Verdict → ℕ
+firstBlock accepted = 1
+firstBlock (refused n i) = 0
+
+abbrev pub Started : List ℕ → Start → Type 0
+Started log s = (told (s .verdict) ≡ judged log) × (s .block ≡ firstBlock (judged log))
+
+-- the reader that an opening gives, on the caller's own bytes
+abbrev pub opened : RefT (List ℕ) → Reader
+opened log = record { log = log; block = firstBlock (judged (now log)); «record» = 0 }
+
+abbrev pub OpenedOn : RefT (List ℕ) → Opened → Type 0
+OpenedOn log o = (told (o .verdict) ≡ judged (now log)) × (o .reader ≡ opened log)
+
+abbrev pub Standing : Reader → Type 0
+Standing r = Stands (now (r .log)) (r .block) (r .«record»)
+
+abbrev pub takenBy : Reader → Taken
+takenBy r = takenAt (now (r .log)) (r .block) (r .«record»)
+
+-- the reader on the same bytes, at the place after
+abbrev pub moved : Reader → Reader
+moved r = record { log = r .log; block = takenBy r .block; «record» = takenBy r .«record» }
+
+abbrev pub Stepped : Reader → Found → Reader → Type 0
+Stepped r f after = (f ≡ takenBy r .found) × (after ≡ moved r)
+
+-- the first record of a log; none of a refused one
+abbrev pub firstFound : List ℕ → Found
+firstFound log = takenAt log (firstBlock (judged log)) 0 .found
+
+abbrev pub FirstOf : List ℕ → First → Type 0
+FirstOf log f = (told (f .verdict) ≡ judged log) × (f .found ≡ firstFound log)
+
+-- ---- reading on
+
+-- what n steps find
+unfoldable pub nexts : List ℕ → ℕ → ℕ → ℕ → List Found
+nexts log b r zero = []
+nexts log b r (suc n) = takenAt log b r .found ∷ nexts log (takenAt log b r .block) (takenAt log b r .«record») n
+
+-- rows as a reader finds them
+unfoldable pub foundRows : List Call → List Found
+foundRows [] = []
+foundRows (request time task amount ∷ cs) =
+    Row (record { time = time; task = task; amount = amount }) ∷ foundRows cs
+foundRows (advance time ∷ cs) = foundRows cs
+foundRows (drain ∷ cs) = foundRows cs
