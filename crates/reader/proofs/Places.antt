@@ -3,24 +3,19 @@
 use Prim.Native.Nat.{ℕ, _+_, _*_, _-_, _≤_, _<_}
 use native.Mathlib.Omega.{arith}
 use mathlib.Core.Path.{_≡_, ap, _∙_}
-use mathlib.Core.Bool.{Bool, true, false, cond}
+use mathlib.Core.Bool.{true, false}
 use mathlib.Core.List.{List}
 use lib.ListN.{length}
-use lib.Dec.{eqb}
 use borrow.Author.Tests.{lt-ltb, le-ltb, lt-leb, le-leb, eq-eqb, ne-eqb}
 use Rattle.lists.proofs.Testing.{equal-or}
 use Rattle.words.specs.Words.{word}
-use Rattle.log.specs.Blocks.{blocks, block, count}
-use Rattle.log.specs.Log.{Reads}
+use Rattle.log.specs.Blocks.{blocks, block}
 use Rattle.log.specs.Records.{askedTimes, rowAt}
-use Rattle.log.specs.declared.Found.{Found}
 use Rattle.log.specs.declared.Found.the-variants.{Row, End}
 use Rattle.log.specs.declared.Record.{Record}
-use Rattle.log.proofs.Blocks.{Counted}
-use Rattle.log.proofs.Accepted.{accepted-sized, accepted-counted, word-block}
+use Rattle.log.proofs.Accepted.{accepted-counted, word-block}
 use Rattle.log.proofs.Rows.{column-blocks, column-most, column-some, row-here}
-use Rattle.reader.specs.Reading.{rowNumber, hasRow, takenAt, Reached, Stands}
-use Rattle.reader.specs.declared.Taken.{Taken}
+use Rattle.reader.specs.Reading.{rowNumber, hasRow, takenAt, Reached}
 
 -- ---- whether a record is at a place
 

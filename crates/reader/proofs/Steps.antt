@@ -1,9 +1,8 @@
 -- Laws of the reader's steps. In order: an opening stands at a place, and each step keeps to one; what a step finds;
 -- reading on from an opening. Assumes nothing.
-use Prim.Native.Nat.{ℕ, zero, suc, _+_, _*_, _-_, _≤_, _<_}
+use Prim.Native.Nat.{ℕ, zero, suc, _+_, _-_, _≤_, _<_}
 use native.Mathlib.Omega.{arith}
-use mathlib.Core.Path.{_≡_, refl, sym, ap, subst, _∙_}
-use mathlib.Core.Bool.{Bool, true, false, cond}
+use mathlib.Core.Path.{_≡_, refl, sym, _∙_}
 use mathlib.Core.List.{List, [], _∷_, _++_}
 use lib.ListN.{length, drop, replicate, drop-of-length-le}
 use lib.Seq.{drop-cons}
@@ -19,7 +18,7 @@ use Rattle.log.specs.declared.Found.{Found}
 use Rattle.log.specs.declared.Found.the-variants.{Row, End}
 use Rattle.reader.proofs.Places.{has-row-zero}
 use Rattle.reader.specs.declared.Taken.{Taken}
-use Rattle.reader.specs.Reading.{rowNumber, hasRow, takenAt, Reached, Stands, firstBlock, opened, Standing}
+use Rattle.reader.specs.Reading.{rowNumber, takenAt, Reached, Stands, firstBlock, opened, Standing}
 use Rattle.reader.specs.Reading.{nexts, foundRows}
 
 -- ---- places

@@ -1,11 +1,6 @@
--- What the walks over a `Reader` share: the struct's type, the call of `take_at`, and the parts of what it returns.
---     B                the struct's type, at a lifetime.        slice-of      the machine value of a slice
--- TakeAt the contract of `take_at`, which the walks cite. to, asked, said its call: what it is passed, that what a
--- slice owns gives what it asks, and what it says of its result
---     rowD             the laws of `Taken`.        found-is, block-fits, record-fits      what is known of its parts
---     apart            what the struct owns, had twice: what `take_at` asks, and the struct
---     put-both         what the struct owns, with two other numbers
--- Assumes `Given`.
+-- What the walks over a `Reader` share. In order: the types of the struct and of the slice; the parts of what `take_at`
+-- returns; the call of `take_at`; what the struct owns taken apart for the call, and put together at two other numbers.
+-- Assumes nothing.
 use mathlib.Core.Path.{_≡_, refl}
 use Prim.Native.Nat.{ℕ, _<_, _^_}
 use mathlib.Core.List.{List, [], _∷_}
@@ -20,7 +15,7 @@ use prog.Routine.{Routine}
 use prog.Wp.{Heap}
 use ghost.Atoms.{Atoms, sem}
 use contract.Monad.{Fun, fact}
-use types.Kit.{Given, ‵, raw, _⊛_, given, ⋆, _$_, _∵_, !, qed, by, move, drop, use1, use2, split, join, learn, fjoin}
+use types.Kit.{Given, ‵, raw, _⊛_, given, ⋆, _$_, _∵_, !, qed, by, move, drop, use1, use2, split, learn, fjoin}
 use types.Kit.{frame, done}
 use denote.RattleType.{RattleType}
 use denote.Laws.{Is}
@@ -33,7 +28,6 @@ use denote.Enum.Laws as EL
 use denote.Struct.Laws as LL
 use denote.Struct.Rest.{all-own, ownAt, rest, own-open, own-out, own-put}
 use denote.Triple.Clauses.{ensured, lasts}
-use denote.Triple.Entry.{Vals}
 use denote.Triple.Spec.{tripleOf}
 use denote.Triple.Statement.{Contract}
 use denote.Triple.Walked.{says}

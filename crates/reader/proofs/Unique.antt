@@ -6,14 +6,11 @@ use mathlib.Core.Path.{_≡_, sym, _∙_}
 use mathlib.Core.List.{List}
 use denote.Ref.{RefT, now}
 use Rattle.rule.specs.View.{Determined}
-use Rattle.log.specs.Log.{told, judged}
+use Rattle.log.specs.Log.{judged}
 use Rattle.log.specs.declared.Found.{Found}
 use Rattle.log.proofs.Unique.{told-determined}
 use Rattle.reader.specs.Reading.{Started, OpenedOn, Stepped, FirstOf}
-use Rattle.reader.specs.declared.First.{First}
-use Rattle.reader.specs.declared.Opened.{Opened}
 use Rattle.reader.specs.declared.Reader.{Reader}
-use Rattle.reader.specs.declared.Start.{Start}
 
 pub start-determined : (log : List ℕ)
     → Determined (Started log)

@@ -11,7 +11,6 @@ use Rattle.log.specs.Log.{Verdict, accepted, refused, told, judged, Reads}
 use Rattle.log.specs.Records.{askedTimes, rowAt}
 use Rattle.log.specs.declared.Found.{Found}
 use Rattle.log.specs.declared.Found.the-variants.{Row, End}
-use Rattle.log.specs.declared.Record.{Record}
 use Rattle.reader.specs.declared.First.{First}
 use Rattle.reader.specs.declared.Opened.{Opened}
 use Rattle.reader.specs.declared.Reader.{Reader}

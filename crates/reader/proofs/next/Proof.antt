@@ -1,10 +1,7 @@
--- `reader::next` meets its contract: a walk of its MIR, by hand. The borrow of the struct is opened, `take_at` is
--- called on the slice and the numbers that lie there, the numbers that it gives are stored, and the borrow is closed
--- at the struct with them.
--- What the struct owns is had twice, since it is Copy: of one copy what log owns goes to the callee, and the other is
--- the struct's again at the new numbers. The cell behind the reference stands at the raw form of its type, and is
--- read and written at the type that the MIR derefs, whose lifetimes are erased.
--- Assumes nothing.
+-- `reader::next` meets its contract: a walk of its MIR, by hand. The borrow of the struct is opened, `take_at` is called
+-- on the slice and the numbers that lie there, its numbers are stored, and the borrow is closed. What the struct owns is
+-- had twice, since it is Copy: one copy goes to the callee, the other is the struct's at its numbers after. The cell
+-- behind the reference stands at the raw form of its type. Assumes nothing.
 use mathlib.Core.Path.{_≡_, refl, ap}
 use Prim.Native.Nat.{ℕ}
 use mathlib.Core.List.{List, [], _∷_}

@@ -9,8 +9,7 @@ use borrow.Author.Tests.{leb-true, leb-false}
 use denote.Ref.{now}
 use lib.ListN.{length}
 use Rattle.log.specs.Blocks.{blocks}
-use Rattle.log.specs.Records.{askedTimes, rowAt}
-use Rattle.log.specs.declared.Record.{Record}
+use Rattle.log.specs.Records.{askedTimes}
 use Rattle.reader.specs.Reading.{rowNumber, Reached}
 use Rattle.reader.proofs.Places.{has-row-zero, has-row-past, has-row-counted, has-row-over, block-few}
 use Rattle.reader.proofs.Places.{taken-none, row-taken, taken-last, taken-next}
