@@ -1,4 +1,4 @@
--- The rows of a log put into columns: none, one more, all. Assumes nothing.
+-- The rows of a log put into columns: none, one more, all; and the same record by record. Assumes nothing.
 use Prim.Native.Nat.{ℕ, _+_, _≤_, _<_, zero-le}
 use native.Mathlib.Omega.{arith}
 use native.Mathlib.Numerals.{add-one}
@@ -6,12 +6,16 @@ use mathlib.Core.Path.{_≡_, refl, sym, ap, _∙_, subst}
 use mathlib.Core.List.{List}
 use lib.ListN.{length, take, set, length-set}
 use lib.Seq.{take-suc, take-suc-set, take-all}
+use borrow.Author.Tests.{lt-ltb}
 use Rattle.lists.specs.Lists.{at}
 use Rattle.log.specs.Log.{Reads}
-use Rattle.log.specs.Records.{askedTimes, askedTasks, askedAmounts, column, rowAt}
+use Rattle.log.specs.Records.{askedTimes, askedTasks, askedAmounts, column, rowAt, found}
 use Rattle.log.specs.declared.Record.{Record}
 use Rattle.log.proofs.Rows.{length-column, column-most}
-use Rattle.report.specs.Filled.{Roomy, Filled, AllFilled}
+use Rattle.reader.specs.Reading.{rowNumber, takenAt, Reached}
+use Rattle.reader.specs.declared.Taken.{Taken}
+use Rattle.reader.proofs.Steps.{first-reached, Taking, taking}
+use Rattle.report.specs.Filled.{recordIn, Roomy, Filled, AllFilled}
 
 -- one entry more of a copy
 take-more : (copy l : List ℕ) (i v : ℕ) → i < length copy → i < length l → v ≡ at l i → take i copy ≡ take i l
@@ -21,6 +25,15 @@ take-more copy l i v h g e f = rw (add-one, take-suc-set copy i v h, take-suc l 
 -- the columns of a log that reads are of one length
 pub column-same : (log : List ℕ) → Reads log → (w : ℕ) → length (column w log) ≡ length (askedTimes log)
 column-same log h w = length-column w log h ∙ sym (length-column 0 log h)
+
+-- before row i, at its place in the log
+pub record Going (log : List ℕ) (n block place i : ℕ) (times tasks amounts : List ℕ) : Type 0 where
+  pub counted : n ≡ length (askedTimes log)
+  pub few : n ≤ 1_024
+  pub past-zero : 0 < block
+  pub reached : Reached log block place
+  pub here : rowNumber block place ≡ i
+  pub filled : Filled log i times tasks amounts
 
 module _ (log : List ℕ) (h : Reads log) where
   pub filled-start : (times tasks amounts : List ℕ) → Roomy times tasks amounts → Filled log 0 times tasks amounts
@@ -62,3 +75,48 @@ module _ (log : List ℕ) (h : Reads log) where
         tasks-same = rw (← e) (f .tasks-same ∙ take-all i (askedTasks log) (omega (arith, column-same log h 1)));
         amounts-same = rw (← e) (f .amounts-same ∙ take-all i (askedAmounts log) (omega (arith, column-same log h 2)));
       }
+
+  -- ---- record by record
+
+  pub going-start : (n : ℕ) → n ≡ length (askedTimes log) → {times tasks amounts : List ℕ} → Roomy times tasks amounts
+      → Going log n 1 0 0 times tasks amounts
+  going-start n e {times} {tasks} {amounts} r =
+      record {
+        counted = e;
+        few = omega (arith, column-most 0 log h);
+        past-zero = omega arith;
+        reached = first-reached log h;
+        here = refl;
+        filled = filled-start times tasks amounts r;
+      }
+
+  module _ {n block place i : ℕ} {times tasks amounts : List ℕ} (g : Going log n block place i times tasks amounts)
+      (more : i < n) (t : Taken) (e : t ≡ takenAt log block place) (row : Record) (f : row ≡ recordIn (t .found)) where
+    taken : Taking log block place (rowNumber block place) t
+    taken = rw e (taking log block place (g .past-zero) (g .reached))
+
+    inside : i < length (askedTimes log)
+    inside = omega (arith, g .counted)
+
+    row-is : row ≡ rowAt log i
+    unfolding found
+    row-is =
+        f ∙ ap recordIn (taken .finds)
+        ∙ ap (λ (m : ℕ). recordIn (found log m)) (g .here)
+        ∙ rw (lt-ltb i (length (askedTimes log)) inside)
+
+    pub going-more : Going log n (t .block) (t .«record») (i + 1) (set times i (row .time)) (set tasks i (row .task))
+        (set amounts i (row .amount))
+    going-more =
+        record {
+          counted = g .counted;
+          few = g .few;
+          past-zero = taken .past-zero;
+          reached = taken .reached;
+          here = taken .goes (omega (arith, inside, g .here)) ∙ ap (λ (m : ℕ). m + 1) (g .here);
+          filled = filled-more row row-is inside (g .filled);
+        }
+
+  pub going-all : {n block place i : ℕ} {times tasks amounts : List ℕ} → Going log n block place i times tasks amounts
+      → n ≤ i → AllFilled log times tasks amounts
+  going-all g l = filled-all (omega (arith, g .counted)) (g .filled)

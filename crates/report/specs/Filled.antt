@@ -4,6 +4,14 @@ use mathlib.Core.Path.{_≡_}
 use mathlib.Core.List.{List}
 use lib.ListN.{length, take}
 use Rattle.log.specs.Records.{askedTimes, askedTasks, askedAmounts}
+use Rattle.log.specs.declared.Found.{Found}
+use Rattle.log.specs.declared.Found.the-variants.{Row, End}
+use Rattle.log.specs.declared.Record.{Record}
+
+-- the record that was found; zeros where there was none
+abbrev pub recordIn : Found → Record
+recordIn (Row row) = row
+recordIn End = record { time = 0; task = 0; amount = 0 }
 
 -- Three columns of 1,024 entries.
 pub record Roomy (times tasks amounts : List ℕ) : Type 0 where

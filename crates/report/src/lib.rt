@@ -1,5 +1,7 @@
 // The work of the printing program: from the bytes that were read to the bytes that are written.
+use log::Found;
 use log::Judged;
+use log::Record;
 use rule::Setup;
 use table::TableAnswer;
 ghost use mathlib.Core.Path.{_≡_};
@@ -10,10 +12,24 @@ ghost use Rattle.rule.specs.Table.{rows, outcomeFrom, columnRefusal};
 ghost use Rattle.log.specs.Log.{Reads};
 ghost use Rattle.log.specs.Records.{askedTimes};
 ghost use Rattle.text.specs.Writes.{WroteUpTo};
-ghost use Rattle.report.specs.Filled.{Roomy, AllFilled};
+ghost use Rattle.report.specs.Filled.{recordIn, Roomy, AllFilled};
 ghost use Rattle.report.specs.Report.{tablePrinted, reportText};
 
-// The rows of an accepted log are put into columns.
+// The record that was found; zeros where there was none.
+fn record_in(found: Found) -> Record
+    ensures { λ r. ⌜ r ≡ recordIn found ⌝ }
+{
+    match found {
+        Found::Row(row) => row,
+        Found::End => Record {
+            time: 0,
+            task: 0,
+            amount: 0,
+        },
+    }
+}
+
+// The rows of an accepted log are put into columns, record by record.
 fn fill(
     log: &[u8],
     times: &mut [u32; 1024],
@@ -26,12 +42,18 @@ fn fill(
     ensures { λ r. ⌜ AllFilled (now (log .entry)) (now (times .exit)) (now (tasks .exit)) (now (amounts .exit)) ⌝ }
 {
     let n = log::record_count(log);
+    let mut block: usize = 1;
+    let mut place: usize = 0;
     let mut i: usize = 0;
     while i < n {
-        let row = log::row_at(log, i);
+        let taken = reader::take_at(log, block, place);
+        let found = taken.found;
+        let row = record_in(found);
         times[i] = row.time;
         tasks[i] = row.task;
         amounts[i] = row.amount;
+        block = taken.block;
+        place = taken.record;
         i += 1;
     }
     n

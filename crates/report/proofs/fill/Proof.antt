@@ -1,72 +1,39 @@
--- `report::fill` meets its contract. The invariant: the first i rows stand in the columns. Assumes nothing.
-use Prim.Native.Nat.{_-_, _≤_}
+-- `report::fill` meets its contract. The invariant: the first i rows stand in the columns, and the place is that of row i.
+-- Assumes nothing.
+use Prim.Native.Nat.{_-_}
 use native.Mathlib.Omega.{arith}
-use mathlib.Core.Path.{_≡_}
 use borrow.Author.Needs.{needs}
 use denote.Ref.{now}
-use lib.ListN.{length}
-use Rattle.log.specs.Records.{askedTimes}
-use Rattle.log.proofs.Rows.{column-most}
-use Rattle.report.specs.Filled.{Filled}
-use Rattle.report.proofs.Filling.{filled-start, filled-more, filled-all}
+use Rattle.report.proofs.Filling.{Going, going-start, going-more, going-all}
 use Rattle.report.proofs.fill.Statement.{statement}
 use Rattle.report.proofs.fill.Tie as tie
 
 abbrev Inv-loop : tie.InvT-loop
-Inv-loop log times₀ tasks₀ amounts₀ n i₀ times tasks amounts i =
-    (n ≡ length (askedTimes log)) × (n ≤ 1_024) × Filled log i times tasks amounts
+Inv-loop log times₀ tasks₀ amounts₀ n block₀ place₀ i₀ times tasks amounts block place i =
+    Going log n block place i times tasks amounts
 
 abbrev μ-loop : tie.MeasureT-loop
-μ-loop log times₀ tasks₀ amounts₀ n i₀ times tasks amounts i = n - i
+μ-loop log times₀ tasks₀ amounts₀ n block₀ place₀ i₀ times tasks amounts block place i = n - i
 
 record-count-requires : tie.Need-record-count-requires Inv-loop μ-loop
 record-count-requires c κs = c .before .pre .0
 
 loop-holds : tie.Need-loop-holds Inv-loop μ-loop
-loop-holds c =
-    let pre = c .before .before .pre in (
-      c .record-count .ensures,
-      omega (arith, c .record-count .ensures, column-most 0 (now (c .before .before .args .log)) (pre .0)),
-      filled-start _ (pre .0) _ _ _ (pre .1),
-    )
+loop-holds c = going-start _ (c .before .before .pre .0) _ (c .record-count .ensures) (c .before .before .pre .1)
 
-row-at-requires : tie.Need-row-at-requires Inv-loop μ-loop
-row-at-requires c κs = c .before .before .before .before .pre .0
-
-mul-times : tie.Need-mul-times Inv-loop μ-loop
-mul-times c = search needs
-
-element-write-times : tie.Need-element-write-times Inv-loop μ-loop
-element-write-times c = search needs
-
-mul-tasks : tie.Need-mul-tasks Inv-loop μ-loop
-mul-tasks c = search needs
-
-element-write-tasks : tie.Need-element-write-tasks Inv-loop μ-loop
-element-write-tasks c = search needs
-
-mul-amounts : tie.Need-mul-amounts Inv-loop μ-loop
-mul-amounts c = search needs
-
-element-write-amounts : tie.Need-element-write-amounts Inv-loop μ-loop
-element-write-amounts c = search needs
-
-add-i : tie.Need-add-i Inv-loop μ-loop
-add-i c = search needs
-
-loop-less : tie.Need-loop-less Inv-loop μ-loop
-loop-less c = search needs
+take-at-requires : tie.Need-take-at-requires Inv-loop μ-loop
+take-at-requires c κs = λ h. c .before .loop .inv .reached
 
 loop-again : tie.Need-loop-again Inv-loop μ-loop
 loop-again c =
-    let here = c .before in
-    let inv = here .before .loop .inv in
-    (inv .0, inv .1, filled-more _ (here .before .before .before .before .pre .0) (c .row-at .result) (c .row-at .ensures) (omega (arith, inv .0)) (inv .2))
+    let here = c .before .before .before in
+    going-more _ (here .before .before .before .pre .0) (here .loop .inv) (c .before .before .loop-test .taken)
+    (c .before .take-at .result) (c .before .take-at .ensures) (c .record-in .result) (c .record-in .ensures)
 
 returns : tie.Need-returns Inv-loop μ-loop
 returns c =
     let inv = c .before .loop .inv in
-    (inv .0, filled-all _ (c .before .before .before .before .pre .0) (omega (arith, inv .0)) (inv .2))
+    (inv .counted, going-all _ (c .before .before .before .before .pre .0) inv (c .loop-test .left))
 
 pub fill-spec : {M : Type 1} → statement M
 fill-spec =
@@ -76,14 +43,15 @@ fill-spec =
     μ-loop
     record-count-requires
     loop-holds
-    row-at-requires
-    mul-times
-    element-write-times
-    mul-tasks
-    element-write-tasks
-    mul-amounts
-    element-write-amounts
-    add-i
-    loop-less
+    take-at-requires
+    (λ c κs. search needs)
+    (λ c. search needs)
+    (λ c. search needs)
+    (λ c. search needs)
+    (λ c. search needs)
+    (λ c. search needs)
+    (λ c. search needs)
+    (λ c. search needs)
+    (λ c. search needs)
     loop-again
     returns)
