@@ -93,9 +93,9 @@ timed =
 abbrev clocked : State → Call → ℕ → Case
 clocked s c t = record { found = number (call s c .clock); said = number t }
 
--- task 0 had one tick, and then nothing was open until 10
+-- task 0 had one tick from 2 to 3, and else nothing was open until 10
 abbrev oneThenIdle : Setup → State
-oneThenIdle p = calls (fresh p) (request 0 0 1 ∷ advance 10 ∷ [])
+oneThenIdle p = calls (fresh p) (request 2 0 1 ∷ advance 10 ∷ [])
 
 abbrev leaves : ℕ → ℕ → Case
 leaves n e = record { found = number n; said = number e }
@@ -103,7 +103,7 @@ leaves n e = record { found = number n; said = number e }
 abbrev left : List Case
 left =
     leaves (oneThenIdle (robin 2 1) .used) 0 ∷ leaves (at (oneThenIdle (robin 2 1) .given) 0) 1
-    ∷ leaves (at (oneThenIdle (robin 2 1) .done) 0) 1 ∷ leaves (oneThenIdle (robin 2 1) .idle) 9
+    ∷ leaves (at (oneThenIdle (robin 2 1) .done) 0) 3 ∷ leaves (oneThenIdle (robin 2 1) .idle) 9
     ∷ leaves (call (calls (fresh plain) (request 0 0 5 ∷ [])) (advance 2) .used) 0
     ∷ leaves (setupRefusal plain) 0
     ∷ clocked twoTicks (request 1 0 1) 0 ∷ clocked twoTicks (request 2 0 1) 2
