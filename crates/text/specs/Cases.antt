@@ -23,8 +23,12 @@ cases =
     prints (columnsText (0 ∷ 1 ∷ []) (0 ∷ 2 ∷ []) (5 ∷ 2 ∷ []) (7 ∷ 5 ∷ []) 7)
     (bytes "row task asked amount done\n1 0 0 5 7\n2 1 2 2 5\nend 7\n")
     ∷ prints (columnsText [] [] [] [] 0) (bytes "row task asked amount done\nend 0\n")
-    ∷ prints (columnsText (0 ∷ []) [] (5 ∷ []) (5 ∷ []) 5) [] ∷ prints (columnsText [] (0 ∷ []) [] [] 5) []
-    ∷ fit 1 1 2 1 "no" ∷ fit 1 1 1 0 "no" ∷ fit 1_024 1_024 1_024 1_024 "yes" ∷ fit 1_025 1_025 1_025 1_025 "no"
+    ∷ prints (columnsText (3 ∷ 1 ∷ []) (10 ∷ 20 ∷ []) (5 ∷ 6 ∷ []) (15 ∷ 26 ∷ []) 27)
+    (bytes "row task asked amount done\n1 3 10 5 15\n2 1 20 6 26\nend 27\n")
+    ∷ prints (columnsText [] (0 ∷ []) (5 ∷ []) (5 ∷ []) 5) [] ∷ prints (columnsText (0 ∷ []) [] (5 ∷ []) (5 ∷ []) 5) []
+    ∷ prints (columnsText (0 ∷ []) (0 ∷ []) [] (5 ∷ []) 5) [] ∷ prints (columnsText (0 ∷ []) (0 ∷ []) (5 ∷ []) [] 5) []
+    ∷ fit 2 1 2 2 "no" ∷ fit 2 3 2 2 "no" ∷ fit 2 2 1 2 "no" ∷ fit 2 2 3 2 "no" ∷ fit 2 2 2 1 "no" ∷ fit 2 2 2 3 "no"
+    ∷ fit 1_024 1_024 1_024 1_024 "yes" ∷ fit 1_025 1_025 1_025 1_025 "no"
     ∷ prints (refusedLine 14 2) (bytes "refused 14 at 2\n")
     ∷ prints (refusedLine 30 0) (bytes "refused 30 at 0\n")
     ∷ prints (decimal 0) (bytes "0") ∷ prints (decimal 9) (bytes "9") ∷ prints (decimal 10) (bytes "10")

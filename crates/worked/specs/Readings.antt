@@ -69,12 +69,14 @@ at f b r = record { found = f; block = b; «record» = r }
 
 abbrev pub rows : List Case
 rows =
-    finds caseA 0 (Row (recorded 0 0 5)) ∷ finds caseA 1 (Row (recorded 2 1 2)) ∷ finds caseA 2 End ∷ finds head 0 End
+    finds caseA 0 (Row (recorded 0 0 5)) ∷ finds caseA 1 (Row (recorded 2 1 2)) ∷ finds caseA 2 End
+    ∷ finds caseA 3 End ∷ finds head 0 End
     ∷ opens caseA 4 (Row (recorded 0 0 5) ∷ Row (recorded 2 1 2) ∷ End ∷ End ∷ [])
     ∷ opens head 2 (End ∷ End ∷ []) ∷ opens (head ++ wrong) 2 (End ∷ End ∷ [])
     ∷ walks long 1 39 5
     (Row (recorded 0 0 0) ∷ Row (recorded 11 12 13) ∷ Row (recorded 16_909_060 15 16) ∷ End ∷ End ∷ [])
-    ∷ takes caseA 1 1 (at (Row (recorded 2 1 2)) 1 2) ∷ takes caseA 1 2 (at End 1 2) ∷ takes caseA 0 0 (at End 0 0)
+    ∷ takes caseA 1 1 (at (Row (recorded 2 1 2)) 1 2) ∷ takes caseA 1 2 (at End 1 2)
+    ∷ takes caseA 1 3 (at End 1 3) ∷ takes caseA 0 0 (at End 0 0)
     ∷ takes long 1 40 (at (Row (recorded 11 12 13)) 2 0) ∷ takes long 2 1 (at End 2 1)
     ∷ record { found = row (firstFound caseA); said = row (Row (recorded 0 0 5)) }
     ∷ record { found = row (firstFound (head ++ wrong)); said = row End }
