@@ -93,7 +93,8 @@ fn lists_below<T: Clone>(list: &[T], below: impl Fn(&T) -> Vec<T>) -> Vec<Vec<T>
     smaller
 }
 
-fn show_setup(setup: &Setup) -> String {
+/// The setup as a line; priorities that are left out are 0.
+pub fn show_setup(setup: &Setup) -> String {
     let used = setup.priorities.iter().rposition(|&byte| byte != 0).map_or(0, |last| last + 1);
     let mut text = format!("setup {} {} {}", setup.policy, setup.count, setup.slice);
     if setup.priorities.len() != 32 {

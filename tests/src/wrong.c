@@ -96,3 +96,38 @@ WRAPPED(anduri_next_done, anduri_next, (anduri_run run))
         next.task = run.queue[0];
     return next;
 }
+
+WRAPPED(anduri_outcome, anduri_table,
+        (uint32_t policy, uint32_t count, uint32_t slice, const uint8_t *bytes, size_t length, const uint32_t *times,
+         size_t times_length, const uint32_t *tasks, size_t tasks_length, const uint32_t *amounts, size_t amounts_length,
+         uint32_t *result, size_t result_length))
+{
+    if (has("tasks_and_amounts_exchanged")) {
+        const uint32_t *column = tasks;
+        tasks = amounts;
+        amounts = column;
+    }
+    anduri_outcome told = __real_anduri_table(policy, count, slice, bytes, length, times, times_length, tasks, tasks_length,
+                                              amounts, amounts_length, result, result_length);
+    if (has("table_counts_rows_from_0") && told.place != 0)
+        told.place--;
+    if (has("table_writes_past_its_room") && told.refusal == 22)
+        result[result_length] = 0;
+    return told;
+}
+
+WRAPPED(anduri_verdict, anduri_judge, (const uint8_t *log, size_t length))
+{
+    anduri_verdict told = __real_anduri_judge(log, length);
+    if (has("judge_forgets_the_block"))
+        told.place = 0;
+    return told;
+}
+
+WRAPPED(size_t, anduri_report, (const uint8_t *log, size_t length, uint8_t *out))
+{
+    size_t end = __real_anduri_report(log, length, out);
+    if (has("report_ends_with_a_zero_byte"))
+        out[end] = 0;
+    return end;
+}
