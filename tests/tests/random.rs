@@ -4,7 +4,6 @@
 //! small as it goes, with its seed.
 
 use anduri_tests::compare;
-use anduri_tests::edges::edge_case;
 use anduri_tests::gen::{call_case, edge_setup, log_case, table_case, CallCase, Random, Size, TableCase};
 use anduri_tests::jumps::Jumps;
 use anduri_tests::oracle::Oracle;
@@ -49,14 +48,6 @@ fn setups<T: Replay>(tested: &T, cases: u64) {
     for seed in seeds(cases) {
         let case = CallCase { setup: edge_setup(&mut Random::new(seed)), calls: Vec::new() };
         hold("setup", seed, &case, |case| compare::calls(tested, &Oracle, case));
-    }
-}
-
-/// Numbers on and beside every limit.
-fn limits<T: Replay, E: Replay>(tested: &T, expected: &E, cases: u64) {
-    for seed in seeds(cases) {
-        let case = edge_case(&mut Random::new(seed), 30);
-        hold("limits", seed, &case, |case| compare::calls(tested, expected, case));
     }
 }
 
@@ -130,15 +121,20 @@ beside_the_oracle!(library, anduri_tests::face::Library);
 #[cfg(anduri_lib)]
 mod library_beside_jumps {
     use super::*;
+    use anduri_tests::edges::edge_case;
     use anduri_tests::face::Library;
 
     #[test]
     fn large_calls() {
         super::calls(&Library, &Jumps, Size::Large, 150, 30);
     }
+    /// Numbers on and beside every limit.
     #[test]
     fn limits() {
-        super::limits(&Library, &Jumps, 3_000);
+        for seed in seeds(3_000) {
+            let case = edge_case(&mut Random::new(seed), 30);
+            hold("limits", seed, &case, |case| compare::calls(&Library, &Jumps, case));
+        }
     }
     #[test]
     fn large_tables() {
