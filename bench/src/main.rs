@@ -55,7 +55,10 @@ fn done(arguments: &[&str]) -> Option<()> {
         }
         ["log", workload] => std::io::stdout().write_all(&logs::log(workload)?).ok(),
         ["judge", workload, name, count] => logs::judge(&logs::log(workload)?, name, count.parse().ok()?),
-        ["speeds", workload] => Some(logs::speeds(&logs::log(workload)?)),
+        ["speeds", workload] => {
+            logs::speeds(&logs::log(workload)?);
+            Some(())
+        }
         _ => None,
     }
 }

@@ -68,7 +68,9 @@ fn damages(rows: &[Row]) -> Vec<Damage> {
 /// The cases of one size: whole, and with each damage, repaired or not.
 fn of_size(setup: &Setup, rows: Vec<Row>) -> Vec<LogCase> {
     let case = |damages: &[Damage]| LogCase { setup: setup.clone(), rows: rows.clone(), damages: damages.to_vec() };
-    let each = damages(&rows).into_iter().flat_map(|damage| [case(&[damage.clone()]), case(&[damage, Repair])]);
+    let each = damages(&rows)
+        .into_iter()
+        .flat_map(|damage| [case(std::slice::from_ref(&damage)), case(&[damage.clone(), Repair])]);
     [case(&[])].into_iter().chain(each).collect()
 }
 
