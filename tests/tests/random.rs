@@ -4,6 +4,7 @@
 //! small as it goes, with its seed.
 
 use anduri_tests::compare;
+use anduri_tests::edges::edge_case;
 use anduri_tests::gen::{call_case, edge_setup, log_case, table_case, CallCase, Random, Size, TableCase};
 use anduri_tests::jumps::Jumps;
 use anduri_tests::oracle::Oracle;
@@ -48,6 +49,14 @@ fn setups<T: Replay>(tested: &T, cases: u64) {
     for seed in seeds(cases) {
         let case = CallCase { setup: edge_setup(&mut Random::new(seed)), calls: Vec::new() };
         hold("setup", seed, &case, |case| compare::calls(tested, &Oracle, case));
+    }
+}
+
+/// Numbers on and beside every limit.
+fn limits<T: Replay, E: Replay>(tested: &T, expected: &E, cases: u64) {
+    for seed in seeds(cases) {
+        let case = edge_case(&mut Random::new(seed), 30);
+        hold("limits", seed, &case, |case| compare::calls(tested, expected, case));
     }
 }
 
@@ -126,6 +135,10 @@ mod library_beside_jumps {
     #[test]
     fn large_calls() {
         super::calls(&Library, &Jumps, Size::Large, 150, 30);
+    }
+    #[test]
+    fn limits() {
+        super::limits(&Library, &Jumps, 3_000);
     }
     #[test]
     fn large_tables() {
