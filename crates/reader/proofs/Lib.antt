@@ -2,3 +2,4 @@ pub mod Places
 pub mod Steps
 pub mod Unique
 mod Take
+mod Fields

@@ -6,9 +6,11 @@ use mathlib.Core.List.{List, [], _∷_}
 use lib.ListN.{length}
 use lib.Dec.{eqb, leb, ltb}
 use denote.Ref.{RefT, now}
+use Rattle.rule.specs.Setups.{plain}
 use Rattle.rule.specs.Calls.{Call, request, advance, drain}
+use Rattle.rule.specs.declared.Setup.{Setup}
 use Rattle.log.specs.Log.{Verdict, accepted, refused, told, judged, Reads}
-use Rattle.log.specs.Records.{askedTimes, rowAt}
+use Rattle.log.specs.Records.{setupOf, askedTimes, rowAt}
 use Rattle.log.specs.declared.Found.{Found}
 use Rattle.log.specs.declared.Found.the-variants.{Row, End}
 use Rattle.reader.specs.declared.First.{First}
@@ -37,6 +39,10 @@ takenAt log b r =
       «record» = cond (eqb r 40) 0 (r + 1);
     })
     (record { found = End; block = b; «record» = r })
+
+-- the setup of the log; on a refused log, where a reader stays at block 0, that of `plain`
+unfoldable pub setupAt : List ℕ → ℕ → Setup
+setupAt log b = cond (leb 1 b) (setupOf log) plain
 
 -- a place that is reached from the first record of a log that reads
 pub record Reached (log : List ℕ) (b r : ℕ) : Type 0 where
@@ -70,6 +76,9 @@ Standing r = Stands (now (r .log)) (r .block) (r .«record»)
 
 abbrev pub takenBy : Reader → Taken
 takenBy r = takenAt (now (r .log)) (r .block) (r .«record»)
+
+abbrev pub setupBy : Reader → Setup
+setupBy r = setupAt (now (r .log)) (r .block)
 
 -- the reader on the same bytes, at the place after
 abbrev pub moved : Reader → Reader
