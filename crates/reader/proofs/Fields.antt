@@ -17,8 +17,8 @@ use prog.Wp.{Heap, Calls, Loops, WpFn, Closed, Tables}
 use ghost.Atoms.{Atoms}
 use contract.Monad.{fact}
 use contract.Running.{Running, GhostRules, givenOf, tables}
-use types.Kit.{Given, ‵, raw, _⊛_, ⋆, some, later, _$_, _∵_, !, qed, by, move, keep, use1, use2, split, pick}
-use types.Kit.{fsplit, fjoin, suffices, frame, await, done}
+use types.Kit.{Given, ‵, raw, _⊛_, ⋆, some, later, _$_, _∵_, !, qed, by, move, keep, use1, use2, split, pick, fsplit}
+use types.Kit.{fjoin, suffices, frame, await, done}
 use types.Part.{whole, sub, look-in}
 use types.Run.{look, init, forget, stop, fld, from, load, of-opd, and-then, no-more, assigns, land, returns, enter}
 use types.Run.{alloc1, alloc0, params1, pass1, pass0, free1, free0}

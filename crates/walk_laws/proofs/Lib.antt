@@ -1,4 +1,5 @@
 pub mod Data
+pub mod Contracts
 pub mod Parameters
 mod Passing
 pub mod Calling

@@ -51,7 +51,8 @@ use Rattle.walk_laws.proofs.Data.{typed-at}
 use Rattle.log.proofs.Found as S
 use Rattle.log.proofs.Found.Laws as S′
 use Rattle.reader.proofs.Take as calls
-use Rattle.reader.proofs.Take.{B, Core, core-ended, core-clauses, rowD, Takes, found-is, block-fits, record-fits}
+use Rattle.reader.proofs.Take.{B, Core, core-ended, core-clauses, rowD, Takes, found-is, block-fits}
+use Rattle.reader.proofs.Take.{record-fits}
 use Rattle.reader.proofs.Taken as D
 use Rattle.reader.proofs.Taken.Laws as D′
 use Rattle.reader.proofs.take_at.Symbol as take-def

@@ -1,5 +1,5 @@
 -- `reader::start_of` meets its contract. Assumes nothing.
-use mathlib.Core.Path.{_≡_, sym, ap, _∙_}
+use mathlib.Core.Path.{sym, ap, _∙_}
 use borrow.Author.Needs.{needs}
 use Rattle.log.specs.Log.{told}
 use Rattle.reader.specs.Reading.{firstBlock}
