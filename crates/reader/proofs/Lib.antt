@@ -3,3 +3,4 @@ pub mod Steps
 pub mod Unique
 mod Take
 mod Fields
+mod Slices
