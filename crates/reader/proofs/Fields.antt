@@ -136,7 +136,8 @@ module _ (R : Data) (Said : List ℕ → ℕ → ℕ → R .type .Denot → Type
             → ent 𝓤 (onEntry 𝓤 H A signature (κ, tt) (q, tt) (d, tt) (mach ∷ [], tt))
             (WpFn 𝓤 H C Λ (function g) (mach ∷ []) Post)
         walk stands wt =
-            qed W ((‵ (flft κ q) ⊛ ‵ ftrue) ∷ ‵ (owns (B (namedLft 1 0 tt (κ, tt)) ∷ []) (d, tt) (mach ∷ [], tt)) ∷ []) ∵
+            qed W ((‵ (flft κ q) ⊛ ‵ ftrue) ∷ ‵ (owns (B (namedLft 1 0 tt (κ, tt)) ∷ []) (d, tt)
+            (mach ∷ [], tt)) ∷ []) ∵
             move ! (1 ∷ []) $ fsplit ! $ move ! (0 ∷ 2 ∷ []) $
             -- [what the struct owns; the token; true]
             enter ! C Λ (function g) (mach ∷ []) _ $

@@ -70,7 +70,8 @@ module _ (R : Lfts 1 → RattleType) (Said : (κs : Lfts 1) → RefT (List ℕ) 
 
       pub goes : ent 𝓤 Enters (sep 𝓤 (On 𝓤 H A .pre to) (sem 𝓤 H A (Own κ s)))
       goes =
-          qed W ((‵ (flft κ q) ⊛ ‵ ftrue) ∷ ‵ (owns (ShrSlice (named 0) κ u8 ∷ []) (s, tt) (slice-of s ∷ [], tt)) ∷ []) ∵
+          qed W ((‵ (flft κ q) ⊛ ‵ ftrue) ∷ ‵ (owns (ShrSlice (named 0) κ u8 ∷ []) (s, tt)
+          (slice-of s ∷ [], tt)) ∷ []) ∵
           move ! (1 ∷ []) $ fsplit ! $
           use1 W (‵ (Own κ s) ⊛ ‵ (Own κ s)) (shr-slice-copy 𝓤 H A W (named 0) κ u8 .twice s (slice-of s ∷ [])) $
           split ! $ move ! (0 ∷ 2 ∷ []) $ fjoin ! $ move ! (2 ∷ 0 ∷ []) $

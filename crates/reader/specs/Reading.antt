@@ -61,15 +61,17 @@ abbrev pub firstBlock : Verdict → ℕ
 firstBlock accepted = 1
 firstBlock (refused n i) = 0
 
-abbrev pub Started : List ℕ → Start → Type 0
-Started log s = (told (s .verdict) ≡ judged log) × (s .block ≡ firstBlock (judged log))
+pub record Started (log : List ℕ) (s : Start) : Type 0 where
+  pub verdict : told (s .verdict) ≡ judged log
+  pub block : s .block ≡ firstBlock (judged log)
 
 -- the reader that an opening gives, on the caller's own bytes
 abbrev pub opened : RefT (List ℕ) → Reader
 opened log = record { log = log; block = firstBlock (judged (now log)); «record» = 0 }
 
-abbrev pub OpenedOn : RefT (List ℕ) → Opened → Type 0
-OpenedOn log o = (told (o .verdict) ≡ judged (now log)) × (o .reader ≡ opened log)
+pub record OpenedOn (log : RefT (List ℕ)) (o : Opened) : Type 0 where
+  pub verdict : told (o .verdict) ≡ judged (now log)
+  pub reader : o .reader ≡ opened log
 
 abbrev pub Standing : Reader → Type 0
 Standing r = Stands (now (r .log)) (r .block) (r .«record»)
@@ -84,15 +86,18 @@ setupBy r = setupAt (now (r .log)) (r .block)
 abbrev pub moved : Reader → Reader
 moved r = record { log = r .log; block = takenBy r .block; «record» = takenBy r .«record» }
 
-abbrev pub Stepped : Reader → Found → Reader → Type 0
-Stepped r f after = (f ≡ takenBy r .found) × (after ≡ moved r)
+-- what a step finds, and the reader at exit
+pub record Stepped (r : Reader) (f : Found) (exit : Reader) : Type 0 where
+  pub found : f ≡ takenBy r .found
+  pub after : exit ≡ moved r
 
 -- the first record of a log; none of a refused one
 abbrev pub firstFound : List ℕ → Found
 firstFound log = takenAt log (firstBlock (judged log)) 0 .found
 
-abbrev pub FirstOf : List ℕ → First → Type 0
-FirstOf log f = (told (f .verdict) ≡ judged log) × (f .found ≡ firstFound log)
+pub record FirstOf (log : List ℕ) (f : First) : Type 0 where
+  pub verdict : told (f .verdict) ≡ judged log
+  pub found : f .found ≡ firstFound log
 
 -- ---- reading on
 

@@ -191,7 +191,8 @@ module _ (T : Declared) (L : LL.Laws T) (ps : List Data) (S : Data) (D : RattleT
               assigns ! (of-opd ! (load ! (from ! (hop ! (look ! 9 refl) (stop !))) (look-raw ! 0 refl)))
               (from-at ! (after-env ps bs (rest l₂ l₃) 1) (stop !))
               (init ! 5 refl (LL.lawful T L 𝓤 H A W .typed h _ was .0)) $
-              move ! (13 ∷ []) $ use1 W (raw (Callee 𝓤 need H A .pre to)) (con.asked T L ps D 𝓤 H A W need Said h a′ plainR was (known-across 1 0 (κ, tt) tt ps a is)) $
+              move ! (13 ∷ []) $ use1 W (raw (Callee 𝓤 need H A .pre to))
+              (con.asked T L ps D 𝓤 H A W need Said h a′ plainR was (known-across 1 0 (κ, tt) tt ps a is)) $
               calls-at ! fm (Callee 𝓤 need H A) known to
               (and-then ! (load ! (from-at ! (after-env ps bs (rest l₂ l₃) 1) (stop !)) (look ! 6 refl))
               (read-all 𝓤 H A W 1 (κ, tt) 0 tt ps bs a 5 _ _ (rest l₂ l₃) (λ k. suc (suc k)) (λ j d. refl) refl !))
@@ -199,8 +200,10 @@ module _ (T : Declared) (L : LL.Laws T) (ps : List Data) (S : Data) (D : RattleT
               use1 W
               (later (some (λ (d : D .Denot).
               (‵ ftrue ⊛ ‵ (D .own d (v ∷ [])))
-              ⊛ raw (ensured 𝓤 H A (con.by-value R ps D) (con.by-value-clauses R ps D 𝓤 need Said) tt (h, a′) tt d)))) (id⊢ 𝓤 _) $
-              await ! tt $ pick ! (λ d. split ! $ move ! (1 ∷ []) $ use1 W (raw (fact 𝓤 (Said h a′ d))) (con.said T L ps D 𝓤 H A W need Said h a′ d) $
+              ⊛ raw (ensured 𝓤 H A (con.by-value R ps D) (con.by-value-clauses R ps D 𝓤 need Said) tt (h, a′) tt d))))
+              (id⊢ 𝓤 _) $
+              await ! tt $ pick ! (λ d. split ! $ move ! (1 ∷ []) $ use1 W (raw (fact 𝓤 (Said h a′ d)))
+              (con.said T L ps D 𝓤 H A W need Said h a′ d) $
               heard ! (Said h a′ d) (λ e. split ! $ drop ! $
               peeks ! D (Is D) (shows 𝓤 H A D) d (v ∷ []) (λ isV.
               rewrite ! 0 (λ (us : List Val). ‵ (D .own d us)) (tellsD d (v ∷ []) isV) refl $

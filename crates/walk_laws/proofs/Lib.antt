@@ -3,7 +3,7 @@ pub mod Contracts
 pub mod Parameters
 mod Passing
 pub mod Calling
-mod Lying
+pub mod Lying
 pub mod InPlace
 pub mod Peek
 pub mod Through

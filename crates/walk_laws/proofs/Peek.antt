@@ -167,7 +167,8 @@ module _ (T : Declared) (L : LL.Laws T) (ps : List Data) (S : Data)
               (from-at ! (after-env ps bs ((τR, l₂) ∷ []) 0) (stop !))
               (init ! 5 refl (LL.lawful T L 𝓤 H A W .typed h _ was .0)) $
               shuts ! tt R q′ h (vals h) b o $
-              move ! (10 ∷ []) $ use1 W (raw (Callee 𝓤 need H A .pre to)) (con.asked T L ps (S .type) 𝓤 H A W need Said h a′ plainR was (known-across 1 0 (κ, tt) tt ps a is)) $
+              move ! (10 ∷ []) $ use1 W (raw (Callee 𝓤 need H A .pre to))
+              (con.asked T L ps (S .type) 𝓤 H A W need Said h a′ plainR was (known-across 1 0 (κ, tt) tt ps a is)) $
               -- [what g asks; the token; the borrow; ps; state; …; reference; …; room for the answer; …; what says
               -- h; …]
               calls-at ! fm (Callee 𝓤 need H A) known to
@@ -177,8 +178,10 @@ module _ (T : Declared) (L : LL.Laws T) (ps : List Data) (S : Data)
               use1 W
               (later (some (λ (d : S .type .Denot).
               (‵ ftrue ⊛ ‵ (S .type .own d (v ∷ [])))
-              ⊛ raw (ensured 𝓤 H A (con.by-value R ps (S .type)) (con.by-value-clauses R ps (S .type) 𝓤 need Said) tt (h, a′) tt d)))) (id⊢ 𝓤 _) $
-              await ! tt $ pick ! (λ d. split ! $ move ! (1 ∷ []) $ use1 W (raw (fact 𝓤 (Said h a′ d))) (con.said T L ps (S .type) 𝓤 H A W need Said h a′ d) $
+              ⊛ raw (ensured 𝓤 H A (con.by-value R ps (S .type)) (con.by-value-clauses R ps (S .type) 𝓤 need Said) tt
+              (h, a′) tt d)))) (id⊢ 𝓤 _) $
+              await ! tt $ pick ! (λ d. split ! $ move ! (1 ∷ []) $ use1 W (raw (fact 𝓤 (Said h a′ d)))
+              (con.said T L ps (S .type) 𝓤 H A W need Said h a′ d) $
               heard ! (Said h a′ d) (λ e. split ! $ drop ! $
               peeks ! (S .type) (Is (S .type)) (shows 𝓤 H A (S .type)) d (v ∷ []) (λ isV.
               land ! (from ! (stop !)) (init ! 8 refl (typed-at S 𝓤 H A W d v isV)) $

@@ -204,7 +204,7 @@ module _ (T : Declared) (L : LL.Laws T) (ps : List Data) (S D : Data) (ν : Sym)
               (from-at ! (after-env ps bs (rest l₂ l₃ l₄ l₅) 2) (stop !))
               (init ! 3 refl (tt, tt)) $
               -- the state is lent, for a lifetime α of the call
-              move ! (7 ∷ []) $ use1 W (‵ (mem R .lies h l₂ 0)) (lies-in T L plainR 𝓤 H A W h l₂ 0 isR) $
+              move ! (7 ∷ []) $ use1 W (‵ (mem R .lies h l₂ 0)) (lies-in T L 𝓤 H A W plainR h l₂ 0 isR) $
               lft-new ! tt (λ α. move ! (1 ∷ []) $
               use1 W
               (later (some (λ (δ : GName).
@@ -212,7 +212,8 @@ module _ (T : Declared) (L : LL.Laws T) (ps : List Data) (S D : Data) (ν : Sym)
               (flent (α ∷ []) (Body (mem R) l₂ 0 δ)))))
               (lends-ref 𝓤 H A W R (named 0) (α ∷ []) h l₂ 0) $ await ! tt $ pick ! (λ δ. split ! $
               -- [the reference; the lender's part; the lifetime's token; ps; …; need; …]
-              move ! (0 ∷ 2 ∷ 15 ∷ []) $ use3 W (raw (Callee 𝓤 need H A .pre (to l₂ α δ))) (con.asked-lent T L ps (S .type) 𝓤 H A W need Claim h a l₂ α δ is) $
+              move ! (0 ∷ 2 ∷ 15 ∷ []) $ use3 W (raw (Callee 𝓤 need H A .pre (to l₂ α δ)))
+              (con.asked-lent T L ps (S .type) 𝓤 H A W need Claim h a l₂ α δ is) $
               calls-at ! fm (Callee 𝓤 need H A) known (to l₂ α δ)
               (and-then ! (load ! (from-at ! (after-env ps bs (rest l₂ l₃ l₄ l₅) 2) (stop !)) (look ! 5 refl))
               (read-all 𝓤 H A W 0 tt 1 (α ∷ [], tt) ps bs a 2 _ _ (rest l₂ l₃ l₄ l₅)
@@ -221,11 +222,13 @@ module _ (T : Declared) (L : LL.Laws T) (ps : List Data) (S D : Data) (ν : Sym)
               use1 W
               (later (some (λ (s : S .type .Denot).
               ((‵ (flft (α ∷ []) fullShare) ⊛ ‵ ftrue) ⊛ ‵ (S .type .own s (v ∷ [])))
-              ⊛ raw (ensured 𝓤 H A (con.lent R ps (S .type)) (con.lent-clauses R ps (S .type) 𝓤 need Claim) (α ∷ [], tt) (x l₂ α δ, a′ α) tt s)))) (id⊢ 𝓤 _) $
+              ⊛ raw (ensured 𝓤 H A (con.lent R ps (S .type)) (con.lent-clauses R ps (S .type) 𝓤 need Claim)
+              (α ∷ [], tt) (x l₂ α δ, a′ α) tt s)))) (id⊢ 𝓤 _) $
               await ! tt $ pick ! (λ s. split ! $ move ! (1 ∷ []) $
               use1 W
               (some (λ (ws : T .D × Fins (α ∷ [], tt) (slots 1 ps) (kept 1 ps) (a′ α)).
-              ‵ (lasts (con.lent R ps (S .type)) (α ∷ [], tt) (x l₂ α δ, a′ α) ws) ⊛ raw (fact 𝓤 (Claim h (a″ α) s (ws .0)))))
+              ‵ (lasts (con.lent R ps (S .type)) (α ∷ [], tt) (x l₂ α δ, a′ α) ws) ⊛ raw
+              (fact 𝓤 (Claim h (a″ α) s (ws .0)))))
               (id⊢ 𝓤 _) $
               pick ! (λ ws. split ! $ move ! (1 ∷ []) $ heard ! (Claim h (a″ α) s (ws .0)) (λ e. fsplit ! $
               move ! (2 ∷ []) $ split ! $ move ! (1 ∷ []) $
@@ -240,7 +243,7 @@ module _ (T : Declared) (L : LL.Laws T) (ps : List Data) (S D : Data) (ν : Sym)
               split ! $ lft-end ! tt $ move ! (0 ∷ 4 ∷ 2 ∷ []) $
               use3 W (later (‵ (mem R .lies (ws .0) l₂ 0))) (ref-back 𝓤 H A W R (α ∷ []) δ (ws .0) l₂ 0) $ await ! tt $
               use1 W (given (Is R (ws .0) (vals (ws .0))) (‵ (fat fullShare τR l₂ 0 (LL.val T L (ws .0)))))
-              (lies-out T L plainR 𝓤 H A W (ws .0) l₂ 0) $ learn ! (λ isR′.
+              (lies-out T L 𝓤 H A W τR refl (ws .0) l₂ 0) $ learn ! (λ isR′.
               -- [the state; …; …; ps; room at exit; …; the reference; …; the answer; …; …; s; …; room for the
               -- result; …]
               assigns !

@@ -120,10 +120,12 @@ module _ {M : Type 1} (𝓤 : URA M) (H : Heap 𝓤) (A : Atoms 𝓤) (W : Given
         qed W (raw (on.Enters rowF Firsts 𝓤 H A W κ q s) ∷ []) ∵
         enter ! C Λ code.function (slice-of s ∷ []) _ $
         alloc1 ! (λ l₀. alloc1 ! (λ l₁. alloc1 ! (λ l₂. alloc1 ! (λ l₃. alloc1 ! (λ l₄. alloc1 ! (λ l₅. alloc0 ! $
-        params1 ! $ pass1 ! (init ! 8 refl (shr-slice-lawful 𝓤 H A W (named 0) κ u8 .typed s (slice-of s ∷ []) p .0)) $ pass0 ! $
+        params1 ! $ pass1 ! (init ! 8 refl (shr-slice-lawful 𝓤 H A W (named 0) κ u8 .typed s (slice-of s ∷ []) p .0)) $
+        pass0 ! $
         move ! (12 ∷ []) $ use1 W (raw (on.On rowO Opens 𝓤 H A .pre (on.to rowO Opens 𝓤 H A W κ q s)) ⊛ ‵ (on.Own κ s))
         (on.goes rowO Opens 𝓤 H A W κ q s) $ split ! $
-        calls-at ! fm (on.On rowO Opens 𝓤 H A) known-opens (on.to rowO Opens 𝓤 H A W κ q s) (and-then ! (load ! (from ! (stop !))
+        calls-at ! fm (on.On rowO Opens 𝓤 H A) known-opens (on.to rowO Opens 𝓤 H A W κ q s)
+        (and-then ! (load ! (from ! (stop !))
         (look ! 10 refl)) (no-more !)) (λ u.
         use1 W (later (some (λ (o : Opened). ((‵ (flft κ q) ⊛ ‵ ftrue) ⊛ ‵ (O.the-row α .own o (u ∷ []))) ⊛ raw
         (ensured 𝓤 H A (on.ended rowO Opens) (on.clauses rowO Opens 𝓤) (κ, tt) (s, tt) tt o)))) (id⊢ 𝓤 _) $ await ! tt $
@@ -150,14 +152,17 @@ module _ {M : Type 1} (𝓤 : URA M) (H : Heap 𝓤) (A : Atoms 𝓤) (W : Given
         learn ! (λ _.
         fsplit ! $ drop ! $ fsplit ! $ move ! (0 ∷ 2 ∷ []) $
         use2 W (raw (peek.Of found Peeks 𝓤 H A .pre (peek.to found Peeks 𝓤 H A W κ q (o .reader))))
-        (peek.asked found Peeks 𝓤 H A W κ q (o .reader) (stands-of (e .1))) $
+        (peek.asked found Peeks 𝓤 H A W κ q (o .reader) (stands-of (e .reader))) $
         -- [what `peek` asks; true; what s owns; _5; …; _4; …; _3; …; _2; …; _1; …; room for _0; …]
-        calls-at ! fm (peek.Of found Peeks 𝓤 H A) known-peek (peek.to found Peeks 𝓤 H A W κ q (o .reader)) (and-then ! (load ! (from ! (stop !))
+        calls-at ! fm (peek.Of found Peeks 𝓤 H A) known-peek (peek.to found Peeks 𝓤 H A W κ q (o .reader))
+        (and-then ! (load ! (from ! (stop !))
         (look ! 3 refl)) (no-more !)) (λ w.
         use1 W (later (some (λ (t : Found). ((‵ (flft κ q) ⊛ ‵ ftrue) ⊛ ‵ (S.the-row .own t (w ∷ []))) ⊛ raw
-        (ensured 𝓤 H A (peek.ended found Peeks) (peek.clauses found Peeks 𝓤) (κ, tt) (o .reader, tt) tt t)))) (id⊢ 𝓤 _) $
+        (ensured 𝓤 H A (peek.ended found Peeks) (peek.clauses found Peeks 𝓤) (κ, tt) (o .reader, tt) tt t))))
+        (id⊢ 𝓤 _) $
         await ! tt $ pick ! (λ t.
-        split ! $ move ! (1 ∷ []) $ use1 W (raw (fact 𝓤 (t ≡ takenBy (o .reader) .found))) (peek.said found Peeks 𝓤 H A W κ q (o .reader) t) $
+        split ! $ move ! (1 ∷ []) $ use1 W (raw (fact 𝓤 (t ≡ takenBy (o .reader) .found)))
+        (peek.said found Peeks 𝓤 H A W κ q (o .reader) t) $
         heard ! (t ≡ takenBy (o .reader) .found) (λ e′. split ! $ move ! (1 ∷ []) $
         peeks ! S.the-row (Is S.the-row) (shows 𝓤 H A S.the-row) t (w ∷ []) (λ isT. rewrite ! 0 (λ (us : List Val). ‵
         (S.the-row .own t us)) (EL.tells S.the-type S′.the-laws t (w ∷ []) isT) refl $
@@ -179,7 +184,7 @@ module _ {M : Type 1} (𝓤 : URA M) (H : Heap 𝓤) (A : Atoms 𝓤) (W : Given
         (made-is (o .verdict) t (verdict-is α o _ is) isS) $
         keep ! (0 ∷ 1 ∷ 3 ∷ []) $
         by ! (on.exits rowF Firsts 𝓤 H A W κ q s (made (o .verdict) t) _
-        (e .0, e′ ∙ ap (λ (r : Reader). takenBy r .found) (e .1)))))))))))))))))))
+        record { verdict = e .verdict; found = e′ ∙ ap (λ (r : Reader). takenBy r .found) (e .reader) })))))))))))))))))
 
 pub first-row-spec : {M : Type 1} → stated.statement M
 unfolding code.routine tablesOf

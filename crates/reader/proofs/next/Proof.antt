@@ -117,7 +117,7 @@ module _ {M : Type 1} (𝓤 : URA M) (H : Heap 𝓤) (A : Atoms 𝓤) (W : Given
       (flft κ′ q′) ⊛ ‵ ftrue) ∷ []) ∵
       suffices ! _ (ends-at 𝓤 H A self.ended stayed (self.clauses 𝓤 H A at-mem run) W
       (((κ, (κ′, tt)), (q, (q′, tt)), bounds, x, at), tt) _ (t .found) (after t, tt) (tt, tt)) $
-      says ! (ap (λ (y : Taken). y .found) e, ap after e) $
+      says ! (record { found = ap (λ (y : Taken). y .found) e; after = ap after e }) $
       move ! (2 ∷ 3 ∷ []) $ join ! $ frame ! $ feqI ! (List Val) (vptr b o ∷ []) (vptr b o ∷ []) refl $ fjoin3 ! $
       nothing ! $ move ! (1 ∷ 0 ∷ []) $ fjoin ! $
       owned ! S.the-row (Is S.the-row) (EL.makes S.the-type S′.the-plain 𝓤 H A) (t .found) _ is $
@@ -159,9 +159,11 @@ module _ {M : Type 1} (𝓤 : URA M) (H : Heap 𝓤) (A : Atoms 𝓤) (W : Given
         (and-then ! (load ! (from ! (stop !)) (look ! 8 refl)) (and-then ! (load ! (from ! (stop !)) (look ! 6 refl))
         (no-more !)))) (λ u.
         use1 W (later (some (λ (t : Taken). ((‵ (flft κ′ q′) ⊛ ‵ ftrue) ⊛ ‵ (D.the-row .own t (u ∷ []))) ⊛ raw
-        (ensured 𝓤 H A (core-ended rowD Takes) (core-clauses rowD Takes 𝓤) (κ′, tt) (d .log, (d .block, (d .«record», tt))) tt
+        (ensured 𝓤 H A (core-ended rowD Takes) (core-clauses rowD Takes 𝓤) (κ′, tt)
+        (d .log, (d .block, (d .«record», tt))) tt
         t)))) (id⊢ 𝓤 _) $ await ! tt $ pick ! (λ t.
-        split ! $ move ! (1 ∷ []) $ use1 W (raw (fact 𝓤 (t ≡ taken))) (calls.said rowD Takes 𝓤 H A W κ′ q′ d t) $ heard ! (t ≡ taken) (λ e. split ! $ move ! (1 ∷ []) $
+        split ! $ move ! (1 ∷ []) $ use1 W (raw (fact 𝓤 (t ≡ taken))) (calls.said rowD Takes 𝓤 H A W κ′ q′ d t) $
+        heard ! (t ≡ taken) (λ e. split ! $ move ! (1 ∷ []) $
         peeks ! D.the-row (Is D.the-row) (shows 𝓤 H A D.the-row) t (u ∷ []) (λ is. drop ! $
         -- [the token of 'a; what the struct owns; its cell; the open borrow; obs; auth; the locals, the last first]
         land ! (from ! (stop !)) (init ! 12 refl (typed-at rowD 𝓤 H A W t u is)) $
@@ -176,7 +178,8 @@ module _ {M : Type 1} (𝓤 : URA M) (H : Heap 𝓤) (A : Atoms 𝓤) (W : Given
         (from ! (stop !)) (init ! 16 refl (EL.lawful S.the-type S′.the-laws 𝓤 H A W tt .typed (t .found) _
         (found-is t _ is) .0)) $
         -- the struct is put together again, at the new numbers, and the borrow is closed
-        move ! (1 ∷ []) $ use1 W (‵ (R .own (after t) (T′.lowered (after t) ∷ []))) (calls.put-both 𝓤 H A W α d (t .block) (t .«record») (block-fits t _ is) (record-fits t _ is)) $
+        move ! (1 ∷ []) $ use1 W (‵ (R .own (after t) (T′.lowered (after t) ∷ [])))
+        (calls.put-both 𝓤 H A W α d (t .block) (t .«record») (block-fits t _ is) (record-fits t _ is)) $
         move ! (2 ∷ []) $ use1 W (‵ (cellAt fullShare (R .mir) (T′.lowered (after t) ∷ []) b o))
         (W .laws .at-raw fullShare (T′.mir erased) b o (T′.lowered (after t))) $
         move ! (0 ∷ 1 ∷ 3 ∷ 4 ∷ 5 ∷ []) $ closes ! tt R (after t) (T′.lowered (after t) ∷ []) b o $

@@ -100,7 +100,8 @@ module _ {M : Type 1} (𝓤 : URA M) (H : Heap 𝓤) (A : Atoms 𝓤) (W : Given
 
   -- what the opening owns: of the slice's, with the numbers' facts, what the reader owns, and with the verdict's the whole
   made-owns : (j : Start) (vs : List Val) → Is J.the-row j vs
-      → ent 𝓤 (sem 𝓤 H A (Own κ s)) (sem 𝓤 H A (rowO (κ, tt) .own (made j) (LL.vals (O.the-type α) (O′.the-laws α) (made j))))
+      → ent 𝓤 (sem 𝓤 H A (Own κ s)) (sem 𝓤 H A (rowO (κ, tt) .own (made j)
+      (LL.vals (O.the-type α) (O′.the-laws α) (made j))))
   made-owns j vs is =
       qed W (‵ (Own κ s) ∷ []) ∵
       nothing ! $ owned ! usize (Is usize) (uint-makes 𝓤 H A W w64) 0 _ (refl, lit< tt) $ fjoin ! $
@@ -124,14 +125,18 @@ module _ {M : Type 1} (𝓤 : URA M) (H : Heap 𝓤) (A : Atoms 𝓤) (W : Given
         enter ! C Λ code.function (slice-of s ∷ []) _ $
         alloc1 ! (λ l₀. alloc1 ! (λ l₁. alloc1 ! (λ l₂. alloc1 ! (λ l₃. alloc0 ! $ params1 ! $
         pass1 ! (init ! 4 refl (shr-slice-lawful 𝓤 H A W (named 0) κ u8 .typed s (slice-of s ∷ []) p .0)) $ pass0 ! $
-        move ! (8 ∷ []) $ use1 W (raw (On (λ _. J.the-row) Starts 𝓤 H A .pre (to (λ _. J.the-row) Starts 𝓤 H A W κ q s)) ⊛ ‵ (Own κ s))
+        move ! (8 ∷ []) $ use1 W (raw (On (λ _. J.the-row) Starts 𝓤 H A .pre
+        (to (λ _. J.the-row) Starts 𝓤 H A W κ q s)) ⊛ ‵ (Own κ s))
         (goes (λ _. J.the-row) Starts 𝓤 H A W κ q s) $ split ! $
-        calls-at ! fm (On (λ _. J.the-row) Starts 𝓤 H A) known (to (λ _. J.the-row) Starts 𝓤 H A W κ q s) (and-then ! (load ! (from ! (stop !)) (look ! 6 refl))
+        calls-at ! fm (On (λ _. J.the-row) Starts 𝓤 H A) known (to (λ _. J.the-row) Starts 𝓤 H A W κ q s)
+        (and-then ! (load ! (from ! (stop !)) (look ! 6 refl))
         (no-more !)) (λ u.
         use1 W (later (some (λ (j : Start). ((‵ (flft κ q) ⊛ ‵ ftrue) ⊛ ‵ (J.the-row .own j (u ∷ []))) ⊛ raw
-        (ensured 𝓤 H A (ended (λ _. J.the-row) Starts) (clauses (λ _. J.the-row) Starts 𝓤) (κ, tt) (s, tt) tt j)))) (id⊢ 𝓤 _) $ await ! tt $
+        (ensured 𝓤 H A (ended (λ _. J.the-row) Starts) (clauses (λ _. J.the-row) Starts 𝓤) (κ, tt) (s, tt) tt j))))
+        (id⊢ 𝓤 _) $ await ! tt $
         pick ! (λ j.
-        split ! $ move ! (1 ∷ []) $ use1 W (raw (fact 𝓤 (Started (now s) j))) (said (λ _. J.the-row) Starts 𝓤 H A W κ q s j) $
+        split ! $ move ! (1 ∷ []) $ use1 W (raw (fact 𝓤 (Started (now s) j)))
+        (said (λ _. J.the-row) Starts 𝓤 H A W κ q s j) $
         heard ! (Started (now s) j) (λ e. split ! $
         move ! (1 ∷ []) $
         peeks ! J.the-row (Is J.the-row) (shows 𝓤 H A J.the-row) j (u ∷ []) (λ is. drop ! $
@@ -158,13 +163,13 @@ module _ {M : Type 1} (𝓤 : URA M) (H : Heap 𝓤) (A : Atoms 𝓤) (W : Given
         -- [the token; what s owns]
         move ! (1 ∷ []) $ use1 W (‵ (Own κ s) ⊛ ‵ (Own κ s))
         (shr-slice-copy 𝓤 H A W (named 0) κ u8 .twice s (slice-of s ∷ [])) $ split ! $
-        use1 W (‵ (rowO (κ, tt) .own (made j) (LL.vals (O.the-type α) (O′.the-laws α) (made j)))) (made-owns j (u ∷ []) is) $
+        use1 W (‵ (rowO (κ, tt) .own (made j) (LL.vals (O.the-type α) (O′.the-laws α) (made j))))
+        (made-owns j (u ∷ []) is) $
         keep ! (0 ∷ 2 ∷ 1 ∷ []) $
-        by ! (exits rowO Opens 𝓤 H A W κ q s (made j) _ (
-          e .0,
-          ap (λ (b : ℕ). record { log = s; block = b; «record» = 0 })
-              (e .1),
-        ))))))))))
+        by ! (exits rowO Opens 𝓤 H A W κ q s (made j) _ (record {
+          verdict = e .verdict;
+          reader = ap (λ (b : ℕ). record { log = s; block = b; «record» = 0 }) (e .block);
+        }))))))))))
 
 pub open-log-spec : {M : Type 1} → stated.statement M
 unfolding code.routine
