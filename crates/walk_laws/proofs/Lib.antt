@@ -1,5 +1,6 @@
 pub mod Data
 pub mod Contracts
+pub mod Answered
 pub mod Parameters
 mod Passing
 pub mod Calling
