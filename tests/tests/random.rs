@@ -131,7 +131,7 @@ mod library_beside_jumps {
     /// Numbers on and beside every limit.
     #[test]
     fn limits() {
-        for seed in seeds(3_000) {
+        for seed in seeds(1_000) {
             let case = edge_case(&mut Random::new(seed), 30);
             hold("limits", seed, &case, |case| compare::calls(&Library, &Jumps, case));
         }
