@@ -4,11 +4,14 @@
 //! `Replay`, so `compare` can set any two side by side on what `worked` and `gen` hold.
 
 pub mod compare;
+pub mod damages;
+pub mod edges;
 #[cfg(anduri_lib)]
 pub mod face;
 pub mod gen;
 pub mod jumps;
 pub mod oracle;
+pub mod script;
 pub mod shrink;
 pub mod vectors;
 pub mod worked;

@@ -8,6 +8,9 @@ use replay::readings::TaskTicks;
 use replay::start::SetupAnswer;
 use rule::Run;
 use table::TableAnswer;
+
+mod kept; // kept.rt: calls and readings on a run that a caller keeps
+
 ghost use mathlib.Core.Path.{_≡_};
 ghost use lib.ListN.{length};
 ghost use Rattle.lists.specs.Lists.{total};
