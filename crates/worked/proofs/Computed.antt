@@ -17,9 +17,8 @@ use Rattle.report.specs.Report.{logOutcome, tablePrinted, printed, reportText}
 use Rattle.worked.specs.Made.{Case}
 use Rattle.worked.specs.Limits.{lengths, checks, places, layout, records}
 use Rattle.worked.specs.Orders.{orders}
-use Rattle.worked.specs.Readings as readings
-use Rattle.worked.specs.Readings.{readings, recordBlocks}
-use Rattle.worked.specs.Printed as shown
+use Rattle.worked.specs.Readings.{readings, rowsRead, recordBlocks}
+use Rattle.worked.specs.Printed.{reports}
 
 abbrev AsSaid : List Case → Type 0
 AsSaid cases = map (λ (c : Case). c .found) cases ≡ map (λ (c : Case). c .said) cases
@@ -32,10 +31,10 @@ pub records-hold : AsSaid records
 unfolding total zeros word words check sliceFits bytesFit setupRefusal lengthFits checkFits placeFits setupIn recordsTo countFits unusedZero layoutFits blockRefusal judgedFrom judged
 records-hold = refl
 
-pub readings-hold : AsSaid (readings ++ readings.rows ++ recordBlocks)
+pub readings-hold : AsSaid (readings ++ rowsRead ++ recordBlocks)
 unfolding total zeros word words check sliceFits bytesFit setupRefusal lengthFits checkFits placeFits setupIn recordsTo countFits unusedZero layoutFits blockRefusal judgedFrom judged entries columnFrom column found blockAsked stretch takenAt nexts
 readings-hold = refl
 
-pub printed-hold : AsSaid shown.printed
+pub reports-hold : AsSaid reports
 unfolding total zeros word words check sliceFits bytesFit setupRefusal lengthFits checkFits placeFits setupIn recordsTo countFits unusedZero layoutFits blockRefusal judgedFrom judged entries columnFrom column without before best chosen overdue headBack turn usedMore give rest serve tickOn tick ticks moved drained opened effect requestRefusal advanceRefusal refusal call calls completion completions unlessRefused outcomeFrom rows digits rowLine rowLines endLine tableText refusedLine logOutcome tablePrinted printed reportText
-printed-hold = refl
+reports-hold = refl

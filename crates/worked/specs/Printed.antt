@@ -9,8 +9,8 @@ use Rattle.worked.specs.Made.{bytes, Case, made, head, caseA, wrong}
 abbrev prints : List ℕ → String → Case
 prints log lines = record { found = bytes (reportText log); said = bytes (text.bytes lines) }
 
-abbrev pub printed : List Case
-printed =
+abbrev pub reports : List Case
+reports =
     -- "Case A below, as a log of two blocks, prints in full"
     prints caseA "row task asked amount done\n1 0 0 5 7\n2 1 2 2 5\nend 7\n"
     ∷ prints head "row task asked amount done\nend 0\n"

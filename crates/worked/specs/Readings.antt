@@ -67,8 +67,8 @@ takes log b r t = record { found = taken (takenAt log b r); said = taken t }
 abbrev at : Found → ℕ → ℕ → Taken
 at f b r = record { found = f; block = b; «record» = r }
 
-abbrev pub rows : List Case
-rows =
+abbrev pub rowsRead : List Case
+rowsRead =
     finds caseA 0 (Row (recorded 0 0 5)) ∷ finds caseA 1 (Row (recorded 2 1 2)) ∷ finds caseA 2 End
     ∷ finds caseA 3 End ∷ finds head 0 End
     ∷ opens caseA 4 (Row (recorded 0 0 5) ∷ Row (recorded 2 1 2) ∷ End ∷ End ∷ [])
