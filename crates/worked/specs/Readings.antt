@@ -9,7 +9,7 @@ use Rattle.log.specs.Records.{setupOf, column, found, blockAsked, stretch}
 use Rattle.log.specs.declared.Found.{Found}
 use Rattle.log.specs.declared.Found.the-variants.{Row, End}
 use Rattle.log.specs.declared.Record.{Record}
-use Rattle.reader.specs.Reading.{takenAt, firstBlock, firstFound, nexts}
+use Rattle.reader.specs.Reading.{takenAt, setupAt, firstBlock, firstFound, nexts}
 use Rattle.reader.specs.declared.Taken.{Taken}
 use Rattle.worked.specs.Made.{number, bytes, verdict, setup, row, steps, taken, Case, reads}
 use Rattle.worked.specs.Made.{written, little, made, head, caseA, wrong, empty}
@@ -78,6 +78,8 @@ rowsRead =
     ∷ takes caseA 1 1 (at (Row (recorded 2 1 2)) 1 2) ∷ takes caseA 1 2 (at End 1 2)
     ∷ takes caseA 1 3 (at End 1 3) ∷ takes caseA 0 0 (at End 0 0)
     ∷ takes long 1 40 (at (Row (recorded 11 12 13)) 2 0) ∷ takes long 2 1 (at End 2 1)
+    ∷ record { found = setup (setupAt caseA 1); said = setup (asked 2 2 1 (replicate 32 0)) }
+    ∷ record { found = setup (setupAt (head ++ wrong) 0); said = setup (asked 1 1 0 (replicate 32 0)) }
     ∷ record { found = row (firstFound caseA); said = row (Row (recorded 0 0 5)) }
     ∷ record { found = row (firstFound (head ++ wrong)); said = row End }
     ∷ []
