@@ -1,5 +1,5 @@
--- Texts written out: document 01's case A in full, a table without rows, columns that do not fit, refusals, and numbers at the
--- edges of a digit. proofs/Computed.antt computes them all. Assumes nothing.
+-- Texts written out: document 01's case A in full, a table without rows, columns that do not fit, refusals, and
+-- numbers at the edges of a digit. proofs/Computed.antt computes them all. Assumes nothing.
 use Prim.Native.Nat.{ℕ}
 use Prim.Native.String.{String}
 use mathlib.Core.Bool.{cond}

@@ -148,8 +148,8 @@ fn put_lines(
     put_end(out, b, end)
 }
 
-// All that is printed of a table, at the start of the buffer. Columns of unequal length, or of more than 1,024 rows, are put
-// as no text. Any columns are taken.
+// All that is printed of a table, at the start of the buffer. Any columns are taken: those of unequal length, or of more
+// than 1,024 rows, are put as no text.
 pub fn put_table(
     tasks: &[u32],
     asked: &[u32],

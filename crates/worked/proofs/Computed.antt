@@ -1,5 +1,5 @@
--- The logs worked by hand come out as they are said to: antt computes them, the logs of 26 blocks by themselves. Assumes
--- nothing.
+-- The logs worked by hand come out as they are said to: antt computes them, the logs of 26 blocks by themselves.
+-- Assumes nothing.
 use mathlib.Core.Path.{_≡_, refl}
 use mathlib.Core.List.{List, _++_, map}
 use Rattle.lists.specs.Lists.{total, without, zeros}
