@@ -18,5 +18,15 @@ gcc -shared -o "$made/libanduri.so" -Wl,--whole-archive "$library" -Wl,--no-whol
 python3 examples/read_a_log.py "$made/libanduri.so" examples/case_a.log >"$made/python.out" &&
     cmp "$made/python.out" examples/read_a_log.out || fail "read_a_log.py"
 ./replay >"$made/replay.out" && cmp "$made/replay.out" examples/case_a.out || fail "./replay"
+for name in case_a watch; do
+    python3 examples/make_log.py "examples/$name.txt" "$made/log" && cmp "$made/log" "examples/$name.log" || fail "$name.txt"
+    ./replay "examples/$name.log" >"$made/replay.out" && cmp "$made/replay.out" "examples/$name.out" || fail "$name.log"
+    python3 examples/picture.py "examples/$name.txt" "$made/replay.out" "$made/svg" &&
+        cmp "$made/svg" "examples/$name.svg" || fail "$name.svg"
+done
+# Completions that the rule does not give have no picture.
+sed 's/ 5$/ 6/' examples/case_a.out >"$made/wrong.out"
+! python3 examples/picture.py examples/case_a.txt "$made/wrong.out" "$made/wrong.svg" 2>"$made/wrong.err" &&
+    grep -q 'not what the rule gives' "$made/wrong.err" && [ ! -e "$made/wrong.svg" ] || fail "picture.py of wrong completions"
 ! ./replay "$made/none" 2>"$made/none.err" && grep -q 'there is no file' "$made/none.err" || fail "./replay and no file"
 echo "examples: each writes what is stored"

@@ -4,6 +4,8 @@
 //! All are a `Replay`, so `compare` can set any two side by side on what `worked` and `gen` hold.
 
 pub mod compare;
+pub mod damages;
+pub mod edges;
 #[cfg(anduri_lib)]
 pub mod face;
 pub mod gen;
@@ -11,6 +13,7 @@ pub mod jumps;
 #[cfg(anduri_lib)]
 pub mod kept;
 pub mod oracle;
+pub mod script;
 pub mod shrink;
 pub mod vectors;
 pub mod worked;

@@ -145,11 +145,20 @@ mod kept {
 #[cfg(anduri_lib)]
 mod library_beside_jumps {
     use super::*;
+    use anduri_tests::edges::edge_case;
     use anduri_tests::face::Library;
 
     #[test]
     fn large_calls() {
         super::calls(&Library, &Jumps, Size::Large, 150, 30);
+    }
+    /// Numbers on and beside every limit.
+    #[test]
+    fn limits() {
+        for seed in seeds(1_000) {
+            let case = edge_case(&mut Random::new(seed), 30);
+            hold("limits", seed, &case, |case| compare::calls(&Library, &Jumps, case));
+        }
     }
     #[test]
     fn large_tables() {

@@ -12,14 +12,16 @@ use Rattle.rule.specs.View.{view, Tidy, Shows}
 use Rattle.rule.specs.declared.Setup.{Setup}
 use Rattle.rule.specs.declared.Run.{Run}
 use Rattle.laws.specs.Sound.{Sound}
-use Rattle.engine.specs.Parts.{queueAt, parts, Kept, straightTo}
-use Rattle.engine.specs.Inner.{Tasks, Heads}
+use Rattle.line.specs.Places.{queueAt}
+use Rattle.steps.specs.Parts.{parts, Kept}
+use Rattle.engine.specs.Inner.{straightTo}
+use Rattle.line.specs.Places.{Tasks, Heads}
 use Rattle.engine.specs.Promises.{Apart}
-use Rattle.engine.specs.declared.Cursor.{Cursor}
-use Rattle.engine.proofs.Queues.{queueAt-priority, queueAt-zero, straight-take}
-use Rattle.engine.proofs.Heads.{heads-inside, heads-serves}
+use Rattle.steps.specs.declared.Cursor.{Cursor}
+use Rattle.line.proofs.Queues.{queueAt-priority, queueAt-zero, straight-take}
+use Rattle.line.proofs.Heads.{heads-inside, heads-serves}
 use Rattle.engine.proofs.Joining.{straight-whole, straight-clear}
-use Rattle.engine.proofs.Legs.{places-tasks}
+use Rattle.steps.proofs.Legs.{places-tasks}
 
 with-queue : Setup → Cursor → List ℕ → List ℕ → List ℕ → List ℕ → State
 with-queue s c x o g d =

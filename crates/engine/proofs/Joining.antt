@@ -14,12 +14,15 @@ use Rattle.rule.specs.Setups.{isPriority}
 use Rattle.rule.specs.Tick.{chosen}
 use Rattle.rule.specs.Calls.{opened}
 use Rattle.rule.specs.declared.Setup.{Setup}
-use Rattle.engine.specs.Parts.{queueAt, Kept, straightTo}
-use Rattle.engine.specs.Inner.{Tasks, Heads, Opens}
-use Rattle.engine.specs.declared.Cursor.{Cursor}
-use Rattle.engine.proofs.Heads.{chosen-robin, heads-inside, heads-serves, serves-heads, heads-set}
-use Rattle.engine.proofs.Queues.{straight-drop, straight-length, straight-priority}
-use Rattle.engine.proofs.Queues.{queueAt-below, queueAt-joined}
+use Rattle.line.specs.Places.{queueAt}
+use Rattle.steps.specs.Parts.{Kept}
+use Rattle.engine.specs.Inner.{straightTo}
+use Rattle.line.specs.Places.{Tasks, Heads}
+use Rattle.engine.specs.Inner.{Opens}
+use Rattle.steps.specs.declared.Cursor.{Cursor}
+use Rattle.line.proofs.Heads.{chosen-robin, heads-inside, heads-serves, serves-heads, heads-set}
+use Rattle.line.proofs.Queues.{straight-drop, straight-length, straight-priority}
+use Rattle.line.proofs.Queues.{queueAt-below, queueAt-joined}
 
 -- ---- the queue from place 0 on
 

@@ -1,8 +1,3 @@
-pub mod Rings
-pub mod Queues
-pub mod Heads
-pub mod Turns
-pub mod Legs
 pub mod Walks
 pub mod Joining
 pub mod Requests

@@ -16,11 +16,12 @@ use Rattle.rule.specs.declared.Setup.{Setup}
 use Rattle.laws.specs.Sound.{Sound}
 use Rattle.laws.proofs.Refusals.{request-accepted}
 use Rattle.laws.proofs.Made.{queue-short, request-sound}
-use Rattle.engine.specs.Parts.{queueAt, parts, Kept}
+use Rattle.line.specs.Places.{queueAt}
+use Rattle.steps.specs.Parts.{parts, Kept}
 use Rattle.engine.specs.Inner.{earlyRefusal, Opens}
 use Rattle.engine.specs.Promises.{Reached, asked, Asks}
-use Rattle.engine.specs.declared.Cursor.{Cursor}
-use Rattle.engine.proofs.Queues.{queueAt-length}
+use Rattle.steps.specs.declared.Cursor.{Cursor}
+use Rattle.line.proofs.Queues.{queueAt-length}
 
 -- ---- the refusals
 

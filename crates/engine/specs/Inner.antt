@@ -1,98 +1,17 @@
--- What the functions inside ask and promise. In order: places of the queue's array; a row of ticks to one task; a
--- step; a task that joins. Primed names are arrays afterwards. Assumes nothing.
-use Prim.Native.Nat.{ℕ, _+_, _-_, _*_, _≤_, _<_}
+-- What the functions inside promise of a request besides the move of the clock. Primed names are arrays afterwards. Assumes
+-- nothing.
+use Prim.Native.Nat.{ℕ}
 use mathlib.Core.Path.{_≡_}
-use mathlib.Core.Bool.{true, false, cond, not}
+use mathlib.Core.Bool.{cond, not}
 use mathlib.Core.List.{List, [], _∷_}
-use lib.ListN.{length, take, drop, set}
 use lib.Dec.{ltb, leb}
-use Rattle.lists.specs.Lists.{at, times, within}
+use Rattle.lists.specs.Lists.{within}
 use Rattle.rule.specs.Refusal.{refuse, first}
 use Rattle.rule.specs.Setups.{isPriority}
-use Rattle.rule.specs.State.{State}
-use Rattle.rule.specs.Tick.{best, ticks}
 use Rattle.rule.specs.Calls.{lastTime, mostAmount, opened}
 use Rattle.rule.specs.declared.Setup.{Setup}
-use Rattle.engine.specs.Parts.{parts, takenOut, turnedTo, Kept}
-use Rattle.engine.specs.declared.Cursor.{Cursor}
-use Rattle.engine.specs.declared.steps.Leg.{Leg}
-
--- ---- places of the queue's array
-
--- every entry is the number of a task
-abbrev pub Tasks : List ℕ → Type 0
-Tasks q = (k : ℕ) → at q k < 32
-
--- "the greatest priority number ..; among equals, .. the smaller task number": of two tasks the one with the greater
--- key goes first
-abbrev pub key : List ℕ → ℕ → ℕ
-key prio task = at prio task * 32 + (31 - task)
-
--- Among the first n places, that of the task that goes first; place 0 where n is 0.
-pub record Best (prio : List ℕ) (n : ℕ) (q : List ℕ) (place : ℕ) : Type 0 where
-  pub inside : place ≤ n - 1
-  pub first : at q place ≡ best prio (at q 0) (drop 1 (take n q))
-
--- The head of n tasks after it was at h: under round robin it stays, or goes back to 0 where it is past the end; under
--- priority it is the best place.
-pub record Heads (s : Setup) (h n : ℕ) (q : List ℕ) (r : ℕ) : Type 0 where
-  pub robin : isPriority s ≡ false → r ≡ cond (ltb h n) h 0
-  pub priority : isPriority s ≡ true → Best (s .priority) n q r
-
--- ---- a row of ticks to one task
-
--- n more ticks fit into the slice
-abbrev pub Room : Setup → ℕ → ℕ → Type 0
-Room s used n = isPriority s ≡ false → used + n ≤ s .slice
-
--- Something is open, and what the next row of ticks reads of the parts.
-pub record Ready (s : Setup) (c : Cursor) (q o : List ℕ) : Type 0 where
-  pub kept : Kept s c q
-  pub some : 0 < c .queued
-  pub owed32 : length o ≡ 32
-  pub slice : isPriority s ≡ false → (0 < s .slice) × (c .used ≤ s .slice)
-  pub owing : (k : ℕ) → 0 < times k (take (c .queued) q) → 0 < at o k
-
--- How many ticks a task may have in a row: some, no more than asked for, than owed, and than its slice has left.
-pub record AtOnce (s : Setup) (used owed limit n : ℕ) : Type 0 where
-  pub some : 0 < n
-  pub asked : n ≤ limit
-  pub owes : n ≤ owed
-  pub sliced : Room s used n
-
--- The next row of ticks: the cursor after the turn, the task at its head, what it is owed, and how many it gets.
-pub record Leads (s : Setup) (c : Cursor) (limit : ℕ) (q o : List ℕ) (l : Leg) : Type 0 where
-  pub turned : l .cursor ≡ turnedTo s c
-  pub task : l .task ≡ at q (l .cursor .head)
-  pub owes : l .owed ≡ at o (l .task)
-  pub once : AtOnce s (l .cursor .used) (l .owed) limit (l .n)
-
--- After the last n ticks that the task at the head was owed: it has left the queue, and is done.
-pub record Finished (s : Setup) (c : Cursor) (task n : ℕ) (q d : List ℕ) (r : Cursor) (q′ d′ : List ℕ) : Type 0 where
-  pub clock : r .clock ≡ c .clock + n
-  pub idle : r .idle ≡ c .idle
-  pub used : r .used ≡ 0
-  pub queued : r .queued ≡ c .queued - 1
-  pub head : Heads s (c .head) (r .queued) q′ (r .head)
-  pub left : q′ ≡ takenOut (c .head) q
-  pub done : d′ ≡ set d task (c .clock + n)
-
--- ---- a step
-
--- At least one tick later and at most limit, by the rule.
-pub record Stepped (s : Setup) (r : Cursor) (q : List ℕ) (limit : ℕ) (before after : State) : Type 0 where
-  pub kept : Kept s r q
-  pub later : before .clock < after .clock
-  pub soon : after .clock ≤ before .clock + limit
-  pub shown : after ≡ ticks (after .clock - before .clock) before
-
--- Under round robin a turn comes, and the limit leaves it a whole slice.
-pub record SliceDue (s : Setup) (c : Cursor) (limit : ℕ) : Type 0 where
-  pub robin : isPriority s ≡ false
-  pub turns : c .used ≡ s .slice
-  pub whole : s .slice ≤ limit
-
--- ---- a task that joins
+use Rattle.steps.specs.Parts.{parts, Kept}
+use Rattle.steps.specs.declared.Cursor.{Cursor}
 
 -- "Request: 10, 11, 12, 13, 14.": the refusals that are judged before the clock moves
 unfoldable pub earlyRefusal : ℕ → ℕ → ℕ → ℕ → ℕ → ℕ
@@ -103,6 +22,17 @@ earlyRefusal count clock t k a =
     ∷ refuse 12 (leb count k)
     ∷ refuse 13 (not (within 1 mostAmount a))
     ∷ [])
+
+-- the queue from place 0 on, under both policies
+unfoldable pub straightTo : Setup → Cursor → Cursor
+straightTo s c =
+    record {
+      clock = c .clock;
+      idle = c .idle;
+      used = c .used;
+      queued = c .queued;
+      head = cond (isPriority s) (c .head) 0;
+    }
 
 -- The task has joined the back of the queue, whatever was given and done.
 pub record Opens (s : Setup) (c : Cursor) (task amount : ℕ) (q o : List ℕ) (r : Cursor) (q′ o′ : List ℕ) : Type 0 where

@@ -1,12 +1,10 @@
 // The replay on a run taken apart: a cursor of small numbers by value, and the arrays lent. In order: moves of the
-// clock, a request, the next completion, a run taken apart and put together. Inside: steps of the clock (steps), a task
-// that joins (opening), the queue's array (line).
-mod line;
+// clock, a request, the next completion, a run taken apart and put together. Inside: a task that joins (opening).
 mod opening;
-mod steps;
 
 use rule::Run;
 use rule::Setup;
+use steps::Cursor;
 ghost use mathlib.Core.Path.{_≡_};
 ghost use Prim.Native.Nat.{_+_, _≤_, _<_, _^_};
 ghost use lib.ListN.{length};
@@ -14,19 +12,8 @@ ghost use Rattle.lists.specs.Lists.{total};
 ghost use Rattle.rule.specs.Calls.{moved, drained};
 ghost use Rattle.rule.specs.View.{view, Tidy, Shows};
 ghost use Rattle.laws.specs.Sound.{Sound};
-ghost use Rattle.engine.specs.Parts.{parts, Kept};
+ghost use Rattle.steps.specs.Parts.{parts, Kept};
 ghost use Rattle.engine.specs.Promises.{Reached, Asks, Owing, SoonestIs, Apart};
-
-// The small numbers of a run, which a move of the clock keeps in registers. The head is the place of the task that is
-// served. The idle ticks are as wide as the places so that no byte of the struct is padding: with padding a step under
-// round robin takes 58 instructions and not 49.
-pub struct Cursor {
-    pub clock: u32,
-    pub used: u32,
-    pub idle: usize,
-    pub queued: usize,
-    pub head: usize,
-}
 
 // The clock moves to a time that is not before it.
 pub fn walk(

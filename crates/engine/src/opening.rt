@@ -1,13 +1,13 @@
 // What a request does besides the move of the clock: its refusals before it, and the task that joins after it.
-use crate::Cursor;
-use crate::line;
 use rule::Setup;
+use steps::Cursor;
 ghost use mathlib.Core.Path.{_≡_};
 ghost use Prim.Native.Nat.{ℕ, _+_, _<_};
 ghost use mathlib.Core.List.{_++_};
 ghost use lib.ListN.{drop};
-ghost use Rattle.engine.specs.Parts.{queueAt, Kept, straightTo};
-ghost use Rattle.engine.specs.Inner.{Tasks, earlyRefusal, Opens};
+ghost use Rattle.line.specs.Places.{queueAt, Tasks};
+ghost use Rattle.steps.specs.Parts.{Kept};
+ghost use Rattle.engine.specs.Inner.{earlyRefusal, straightTo, Opens};
 
 // The refusal of a request by 10 to 13, or 0.
 pub fn early_refusal(count: u32, clock: u32, time: u32, task: u32, amount: u32) -> u32

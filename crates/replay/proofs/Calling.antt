@@ -16,9 +16,9 @@ use Rattle.rule.specs.declared.Run.{Run}
 use Rattle.laws.specs.Sound.{Sound}
 use Rattle.laws.specs.Drains.{lastClock}
 use Rattle.laws.proofs.Refusals.{refused-stays, accepted-acts}
-use Rattle.engine.specs.Parts.{parts}
+use Rattle.steps.specs.Parts.{parts}
 use Rattle.engine.specs.Promises.{Apart, asked}
-use Rattle.engine.specs.declared.Cursor.{Cursor}
+use Rattle.steps.specs.declared.Cursor.{Cursor}
 use Rattle.replay.specs.Answers.{Called}
 
 -- ---- a run taken apart

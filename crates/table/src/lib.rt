@@ -39,7 +39,7 @@ fn run_rows(setup: Setup, times: &[u32], tasks: &[u32], amounts: &[u32], noted: 
     let mut given = [0u32; 32];
     let mut done = [0u32; 32];
     let mut last = [0u32; 32];
-    let mut cursor = engine::Cursor {
+    let mut cursor = steps::Cursor {
         clock: 0,
         idle: 0,
         used: 0,

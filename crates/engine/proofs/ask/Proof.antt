@@ -4,9 +4,9 @@ use native.Mathlib.Omega.{arith}
 use mathlib.Core.Path.{_≡_, sym, _∙_}
 use borrow.Author.Needs.{needs}
 use Rattle.laws.specs.Sound.{Sound}
-use Rattle.engine.specs.Parts.{parts}
+use Rattle.steps.specs.Parts.{parts}
 use Rattle.engine.specs.Inner.{earlyRefusal}
-use Rattle.engine.proofs.Legs.{kept-tasks}
+use Rattle.steps.proofs.Legs.{kept-tasks}
 use Rattle.engine.proofs.Requests.{Passed, early-passed, asks-early, asks-open, queue-room, asks-taken}
 use Rattle.engine.proofs.ask.Statement.{statement}
 use Rattle.engine.proofs.ask.Tie as tie

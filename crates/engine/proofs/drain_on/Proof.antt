@@ -4,7 +4,7 @@ use native.Mathlib.Omega.{arith}
 use mathlib.Core.Path.{ap, _∙_}
 use borrow.Author.Needs.{needs}
 use Rattle.rule.specs.Calls.{moved}
-use Rattle.engine.specs.Parts.{parts}
+use Rattle.steps.specs.Parts.{parts}
 use Rattle.engine.proofs.Walks.{drained-moved}
 use Rattle.engine.proofs.drain_on.Statement.{statement}
 use Rattle.engine.proofs.drain_on.Tie as tie

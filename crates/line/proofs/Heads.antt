@@ -1,0 +1,206 @@
+-- Where the task stands that is served. In order: who is chosen; the scan for the one that goes first; heads, and one
+-- more task. Assumes nothing.
+use Prim.Native.Nat.{ℕ, zero, suc, _+_, _-_, _≤_, _<_, zero-le}
+use native.Mathlib.Omega.{arith}
+use native.Mathlib.Numerals.{add-one}
+use native.Mathlib.Nat.{not-suc-le-zero, le-of-suc-le-suc}
+use mathlib.Core.Path.{_≡_, refl, sym, ap, _∙_}
+use mathlib.Core.Bool.{Bool, true, false, cond}
+use mathlib.Core.List.{List, [], _∷_, _++_}
+use lib.ListN.{length, set, take, drop, drop-of-length-le}
+use lib.Seq.{length-take-le, take-suc, take-set-le, slice-cons}
+use lib.Dec.{ltb}
+use borrow.Author.Tests.{lt-ltb, le-ltb, ltb-true, ltb-false}
+use Rattle.lists.specs.Lists.{at}
+use Rattle.lists.proofs.Testing.{tested, cond-true, cond-false}
+use Rattle.lists.proofs.Totals.{at-set-other}
+use Rattle.rule.specs.Setups.{isPriority}
+use Rattle.rule.specs.Tick.{before, best, chosen}
+use Rattle.rule.specs.declared.Setup.{Setup}
+use Rattle.line.specs.Places.{queueAt, Tasks, key, Best, Heads}
+use Rattle.line.proofs.Rings.{ring-head}
+use Rattle.line.proofs.Queues.{queueAt-priority, queueAt-robin}
+
+-- ---- who is chosen
+
+chosen-best : (s : Setup) (n : ℕ) (q : List ℕ) → isPriority s ≡ true → 0 < n → n ≤ length q
+    → chosen s (take n q) ≡ best (s .priority) (at q 0) (drop 1 (take n q))
+unfolding chosen
+chosen-best s zero q e h l = absurd (not-suc-le-zero h)
+chosen-best s (suc n) [] e h l = absurd (not-suc-le-zero l)
+chosen-best s (suc n) (x ∷ q) e h l = cond-true _ x e
+
+pub chosen-robin : (s : Setup) (h n : ℕ) (q : List ℕ) → isPriority s ≡ false → h < n → n ≤ length q
+    → chosen s (queueAt s h n q) ≡ at q h
+unfolding chosen
+chosen-robin s h n q e b l = ap (chosen s) (queueAt-robin s h n q e ∙ ring-head h n q b l) ∙ cond-false _ (at q h) e
+
+-- ---- heads
+
+-- the greater key goes first
+before-key : (prio : List ℕ) (a b : ℕ) → a < 32 → b < 32 → before prio a b ≡ cond (ltb (key prio a) (key prio b)) b a
+unfolding before
+before-key prio a b ha hb =
+    tested (ltb (at prio a) (at prio b))
+    (λ e. rw (e, lt-ltb (key prio a) (key prio b) (omega (arith, ltb-true (at prio a) (at prio b) e))))
+    (λ e.
+    tested (ltb (at prio b) (at prio a))
+    (λ f. rw (e, f, le-ltb (key prio a) (key prio b) (omega (arith, ltb-true (at prio b) (at prio a) f))))
+    (λ f.
+    let level : at prio a ≡ at prio b =
+    omega (arith, ltb-false (at prio a) (at prio b) e, ltb-false (at prio b) (at prio a) f) in
+    tested (ltb b a)
+    (λ g. rw (e, f, g, lt-ltb (key prio a) (key prio b) (omega (arith, ltb-true b a g))))
+    (λ g. rw (e, f, g, le-ltb (key prio a) (key prio b) (omega (arith, ltb-false b a g))))))
+
+-- of the first k tasks, the one that goes first is that at the place, with the key top
+pub record Scanned (prio : List ℕ) (n : ℕ) (q : List ℕ) (place top k : ℕ) : Type 0 where
+  pub inside : place ≤ n - 1
+  pub keyed : top ≡ key prio (at q place)
+  pub ahead : best prio (at q 0) (drop 1 (take n q)) ≡ best prio (at q place) (drop k (take n q))
+
+pub scanned-step : (prio : List ℕ) (n : ℕ) (q : List ℕ) (place top k other place′ top′ : ℕ) → k < n → n ≤ length q
+    → Tasks q → other ≡ key prio (at q k) → place′ ≡ cond (ltb top other) k place
+    → top′ ≡ cond (ltb top other) other top → Scanned prio n q place top k → Scanned prio n q place′ top′ (k + 1)
+unfolding best
+scanned-step prio n q place top k other place′ top′ h l known o p t S =
+    record {
+      inside = rw p (inside (ltb top other));
+      keyed = rw (t, p) (keyed (ltb top other));
+      ahead =
+          S .ahead
+          ∙ ap (best prio (at q place)) (slice-cons k n q 0 h l)
+          ∙ ap (λ (x : ℕ). best prio x (drop (suc k) (take n q))) first
+          ∙ ap (λ (j : ℕ). best prio (at q place′) (drop j (take n q))) (sym (add-one k));
+    }
+  where
+    inside : (b : Bool) → cond b k place ≤ n - 1
+    inside true = omega arith
+    inside false = S .inside
+
+    keyed : (b : Bool) → cond b other top ≡ key prio (at q (cond b k place))
+    keyed true = o
+    keyed false = S .keyed
+
+    place-at : (b : Bool) → cond b (at q k) (at q place) ≡ at q (cond b k place)
+    place-at true = refl
+    place-at false = refl
+
+    first : before prio (at q place) (at q k) ≡ at q place′
+    first =
+        before-key prio (at q place) (at q k) (known place) (known k)
+        ∙ rw (p, ← o, ← S .keyed) (place-at (ltb top other))
+
+pub scanned-end : (prio : List ℕ) (n : ℕ) (q : List ℕ) (place top k : ℕ) → n ≤ k → n ≤ length q
+    → Scanned prio n q place top k → Best prio n q place
+unfolding best
+scanned-end prio n q place top k h l S =
+    let z : drop k (take n q) ≡ [] = drop-of-length-le (take n q) {i = k} (omega (arith, length-take-le n q l)) in
+    record { inside = S .inside; first = sym (S .ahead ∙ ap (best prio (at q place)) z) }
+
+before-same : (prio : List ℕ) (a : ℕ) → before prio a a ≡ a
+unfolding before
+before-same prio a =
+    tested (ltb (at prio a) (at prio a)) (λ e. rw e) (λ e. rw e (tested (ltb a a) (λ f. rw f) (λ f. rw f)))
+
+best-append : (prio : List ℕ) (b : ℕ) (xs : List ℕ) (y : ℕ)
+    → best prio b (xs ++ y ∷ []) ≡ before prio (best prio b xs) y
+unfolding best
+best-append prio b [] y = refl
+best-append prio b (x ∷ xs) y = best-append prio (before prio b x) xs y
+
+module _ (s : Setup) (h n : ℕ) (q : List ℕ) (r : ℕ) (H : Heads s h n q r) where
+  pub heads-inside : r ≤ n - 1
+  heads-inside =
+      tested (isPriority s)
+      (λ e. H .priority e .inside)
+      (λ e.
+      tested (ltb h n)
+      (λ f. rw (H .robin e, f) (omega (arith, ltb-true h n f)))
+      (λ f. rw (H .robin e, f) zero-le))
+
+  pub heads-serves : 0 < n → n ≤ length q → at q r ≡ chosen s (queueAt s r n q)
+  heads-serves p l =
+      tested (isPriority s)
+      (λ e. H .priority e .first ∙ sym (ap (chosen s) (queueAt-priority s r n q e) ∙ chosen-best s n q e p l))
+      (λ e. sym (chosen-robin s r n q e (omega (arith, heads-inside)) l))
+
+-- a head at which the chosen task stands
+pub serves-heads : (s : Setup) (h n : ℕ) (q : List ℕ) → h ≤ n - 1 → n ≤ length q
+    → (0 < n → at q h ≡ chosen s (queueAt s h n q)) → Heads s h n q h
+unfolding best
+serves-heads s h zero q b l c =
+    let z : h ≡ 0 = omega arith in
+    record {
+      robin = λ e. rw z;
+      priority = λ e. record { inside = b; first = rw z };
+    }
+serves-heads s h (suc n) q b l c =
+    record {
+      robin = λ e. sym (cond-true h 0 (lt-ltb h (suc n) (omega arith)));
+      priority = λ e.
+          record {
+            inside = b;
+            first =
+                c (omega arith)
+                ∙ ap (chosen s) (queueAt-priority s h (suc n) q e)
+                ∙ chosen-best s (suc n) q e (omega arith) l;
+          };
+    }
+
+-- what stands behind the queue does not matter
+pub heads-set : (s : Setup) (h n : ℕ) (q : List ℕ) (k : ℕ) → Heads s h n q h → Heads s h n (set q n k) h
+unfolding best
+heads-set s h zero q k H =
+    let z : h ≡ 0 = omega (arith, heads-inside s h zero q h H) in
+    record {
+      robin = H .robin;
+      priority = λ e. record { inside = H .priority e .inside; first = rw z };
+    }
+heads-set s h (suc n) q k H =
+    let b : h ≤ suc n - 1 = heads-inside s h (suc n) q h H in
+    let o : at (set q (suc n) k) h ≡ at q h = at-set-other q (suc n) k h (λ e. omega arith) in
+    let z : at (set q (suc n) k) 0 ≡ at q 0 = at-set-other q (suc n) k 0 (λ e. omega arith) in
+    record {
+      robin = H .robin;
+      priority = λ e.
+          record {
+            inside = b;
+            first =
+                o
+                ∙ H .priority e .first
+                ∙ ap (λ (x : ℕ). best (s .priority) x (drop 1 (take (suc n) q))) (sym z)
+                ∙ ap (λ (x : List ℕ). best (s .priority) (at (set q (suc n) k) 0) (drop 1 x))
+                (sym (take-set-le (suc n) q (suc n) k (omega arith)));
+          };
+    }
+
+-- one more task: of it and the best of the others, the one that goes first
+pub best-more : (prio q : List ℕ) (h n r x y : ℕ) → n < length q → Tasks q → Best prio n q h → x ≡ key prio (at q h)
+    → y ≡ key prio (at q n) → r ≡ cond (ltb x y) n h → Best prio (n + 1) q r
+unfolding best
+best-more prio q h n r x y l known B ex ey f =
+    record {
+      inside = rw f (inside (ltb x y));
+      first = rw f (place (ltb x y)) ∙ sym first ∙ ap (λ (k : ℕ). before prio k (at q n)) (B .first) ∙ more q n l;
+    }
+  where
+    first : before prio (at q h) (at q n) ≡ cond (ltb x y) (at q n) (at q h)
+    first = rw (ex, ey) (before-key prio (at q h) (at q n) (known h) (known n))
+
+    inside : (b : Bool) → cond b n h ≤ n + 1 - 1
+    inside true = omega arith
+    inside false = omega (arith, B .inside)
+
+    place : (b : Bool) → at q (cond b n h) ≡ cond b (at q n) (at q h)
+    place true = refl
+    place false = refl
+
+    more : (q : List ℕ) (n : ℕ) → n < length q
+        → before prio (best prio (at q 0) (drop 1 (take n q))) (at q n) ≡ best prio (at q 0) (drop 1 (take (n + 1) q))
+    more [] n l = absurd (not-suc-le-zero l)
+    more (x ∷ q) zero l = before-same prio x
+    more (x ∷ q) (suc n) l =
+        sym (best-append prio x (take n q) (at q n))
+        ∙ ap (best prio x) (sym (take-suc q n 0 (le-of-suc-le-suc l)))
+        ∙ ap (λ (k : ℕ). best prio x (drop 1 (take k (x ∷ q)))) (sym (add-one (suc n)))

@@ -1,0 +1,80 @@
+-- Invariant: the places passed hold what stood behind them (Rings). Measure: the places left.
+use Prim.Native.Nat.{_-_, _≤_}
+use native.Mathlib.Omega.{arith}
+use mathlib.Core.Path.{_≡_}
+use lib.ListN.{length}
+use borrow.Author.Needs.{needs}
+use Rattle.line.proofs.Rings.{MovedUp, movedUp-start, movedUp-length, movedUp-step, movedUp-end}
+use Rattle.line.proofs.take_out.Statement.{statement}
+use Rattle.line.proofs.take_out.Tie as tie
+
+abbrev Inv-loop : tie.InvT-loop
+Inv-loop queue₀ place k₀ queue k = (place ≤ k) × (k ≤ 31) × MovedUp place queue₀ k queue
+
+abbrev μ-loop : tie.MeasureT-loop
+μ-loop queue₀ place k₀ queue k = 31 - k
+
+whole : (c : tie.At-loop Inv-loop μ-loop) → length (c .loop .queue) ≡ 32
+whole c =
+    let s = c .before in
+    let i = c .loop in
+    movedUp-length (s .args .place) (s .args .queue .now) (s .pre .1) (s .pre .0) (i .k) (i .queue) (i .inv .0)
+    (omega (arith, i .inv .1)) (i .inv .2)
+
+loop-holds : tie.Need-loop-holds Inv-loop μ-loop
+loop-holds c = (
+  omega arith,
+  omega (arith, c .pre .1),
+  movedUp-start (c .args .place) (c .args .queue .now) (c .pre .1) (c .pre .0),
+)
+
+add-queue : tie.Need-add-queue Inv-loop μ-loop
+add-queue c = search needs
+
+element-copy-out-queue : tie.Need-element-copy-out-queue Inv-loop μ-loop
+element-copy-out-queue c = omega (arith, whole (c .before), c .before .loop .inv)
+
+element-write-queue : tie.Need-element-write-queue Inv-loop μ-loop
+element-write-queue c = omega (arith, whole (c .before .before), c .before .before .loop .inv)
+
+add-k : tie.Need-add-k Inv-loop μ-loop
+add-k c = search needs
+
+loop-less : tie.Need-loop-less Inv-loop μ-loop
+loop-less c = search needs
+
+loop-again : tie.Need-loop-again Inv-loop μ-loop
+loop-again c =
+    let s = c .before .before .before in
+    let i = c .before .before .loop in (
+      omega arith,
+      omega arith,
+      movedUp-step (s .args .place) (s .args .queue .now) (s .pre .1) (s .pre .0) (i .k) (i .queue) (i .inv .0)
+          (c .before .loop-test .taken) (i .inv .2),
+    )
+
+element-write-queue-2 : tie.Need-element-write-queue-2 Inv-loop μ-loop
+element-write-queue-2 c = omega (arith, whole (c .before), c .before .loop .inv)
+
+returns : tie.Need-returns Inv-loop μ-loop
+returns c =
+    let s = c .before .before in
+    let i = c .before .loop in
+    movedUp-end (s .args .place) (s .args .queue .now) (s .pre .1) (s .pre .0) (i .k) (i .queue) (omega arith)
+    (i .inv .2)
+
+pub take-out-spec : {M : Type 1} → statement M
+take-out-spec =
+    tie.close
+    (tie.spec
+    Inv-loop
+    μ-loop
+    loop-holds
+    add-queue
+    element-copy-out-queue
+    element-write-queue
+    add-k
+    loop-less
+    loop-again
+    element-write-queue-2
+    returns)

@@ -1,0 +1,94 @@
+-- What the turn does to the parts: the cursor's head moves, and no task does. Assumes nothing.
+use Prim.Native.Nat.{ℕ, _+_, _≤_, _<_}
+use native.Mathlib.Omega.{arith}
+use mathlib.Core.Path.{_≡_, sym, ap, _∙_}
+use mathlib.Core.Bool.{Bool, true, false, cond, false≢true}
+use mathlib.Core.List.{List}
+use lib.Dec.{eqb}
+use borrow.Author.Tests.{eqb-false}
+use Rattle.lists.proofs.Testing.{tested, cond-true, cond-false}
+use Rattle.rule.specs.Setups.{isPriority}
+use Rattle.rule.specs.Tick.{overdue, headBack, turn}
+use Rattle.rule.specs.declared.Setup.{Setup}
+use Rattle.line.specs.Places.{queueAt}
+use Rattle.steps.specs.Parts.{parts, Kept, due, nextPlace, turnedTo}
+use Rattle.steps.specs.Inner.{Room}
+use Rattle.steps.specs.declared.Cursor.{Cursor}
+use Rattle.line.proofs.Rings.{ring-next}
+use Rattle.line.proofs.Queues.{queueAt-robin}
+use Rattle.line.proofs.Heads.{chosen-robin}
+
+next-below : (h n : ℕ) (b : Bool) → h < n → cond b (cond (eqb (h + 1) n) 0 (h + 1)) h < n
+next-below h n false l = l
+next-below h n true l =
+    tested (eqb (h + 1) n) (λ e. rw e (omega arith)) (λ e. rw e (omega (arith, eqb-false (h + 1) n e)))
+
+due-robin : (s : Setup) (c : Cursor) → due s c ≡ true → isPriority s ≡ false
+due-robin s c e =
+    tested (isPriority s)
+    (λ f. absurd (false≢true (sym (cond-true false (eqb (c .used) (s .slice)) f) ∙ e)))
+    (λ f. f)
+
+pub turned-room : (s : Setup) (c : Cursor) → (isPriority s ≡ false → (0 < s .slice) × (c .used ≤ s .slice))
+    → Room s (turnedTo s c .used) 1
+unfolding turnedTo
+turned-room s c h e =
+    tested (eqb (c .used) (s .slice))
+    (λ f. rw (e, f) (omega (arith, h e .0)))
+    (λ f. rw (e, f) (omega (arith, h e .1, eqb-false (c .used) (s .slice) f)))
+
+module _ (s : Setup) (c : Cursor) (q : List ℕ) (K : Kept s c q) (some : 0 < c .queued) where
+  pub turned-some : turnedTo s c .head < c .queued
+  unfolding turnedTo
+  turned-some = next-below (c .head) (c .queued) (due s c) (omega (arith, K .inside))
+
+  pub turned-kept : Kept s (turnedTo s c) q
+  unfolding turnedTo
+  turned-kept =
+      record {
+        fits = K .fits;
+        whole = K .whole;
+        clear = K .clear;
+        inside = omega (arith, turned-some);
+        serves = λ p.
+            tested (due s c)
+            (λ f.
+            sym (chosen-robin s (turnedTo s c .head) (c .queued) q (due-robin s c f) turned-some
+            (omega (arith, K .fits, K .whole))))
+            (λ f. rw f (K .serves p));
+      }
+
+  queue-turn : queueAt s (turnedTo s c .head) (c .queued) q
+      ≡ cond (due s c) (headBack (queueAt s (c .head) (c .queued) q)) (queueAt s (c .head) (c .queued) q)
+  unfolding turnedTo
+  queue-turn =
+      let h = c .head in
+      let n = c .queued in
+      tested (due s c)
+      (λ f.
+      let e : isPriority s ≡ false = due-robin s c f in
+      ap (λ (x : ℕ). queueAt s x n q) (cond-true (nextPlace c) h f)
+      ∙ queueAt-robin s (nextPlace c) n q e
+      ∙ sym (ring-next h n q (omega (arith, K .inside)) (omega (arith, K .fits, K .whole)))
+      ∙ ap headBack (sym (queueAt-robin s h n q e))
+      ∙ sym (cond-true (headBack (queueAt s h n q)) (queueAt s h n q) f))
+      (λ f.
+      ap (λ (x : ℕ). queueAt s x n q) (cond-false (nextPlace c) h f)
+      ∙ sym (cond-false (headBack (queueAt s h n q)) (queueAt s h n q) f))
+
+  pub parts-turn : (o g d : List ℕ) → parts s (turnedTo s c) q o g d ≡ turn (parts s c q o g d)
+  unfolding turn overdue turnedTo
+  parts-turn o g d =
+      ap
+      (λ (x : List ℕ).
+      record {
+        setup = s;
+        clock = c .clock;
+        idle = c .idle;
+        used = cond (due s c) 0 (c .used);
+        queue = x;
+        owed = o;
+        given = g;
+        done = d;
+      })
+      queue-turn

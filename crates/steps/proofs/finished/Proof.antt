@@ -1,0 +1,48 @@
+-- The array without the task still holds tasks, so the head can be looked for in it.
+use native.Mathlib.Omega.{arith}
+use mathlib.Core.Path.{_∙_}
+use borrow.Author.Needs.{needs}
+use Rattle.line.proofs.Rings.{takenOut-length, takenOut-below}
+use Rattle.steps.proofs.finished.Statement.{statement}
+use Rattle.steps.proofs.finished.Tie as tie
+
+add-clock : tie.Need-add-clock
+add-clock c = search needs
+
+mul-done : tie.Need-mul-done
+mul-done c = search needs
+
+element-write-done : tie.Need-element-write-done
+element-write-done c = search needs
+
+sub-left : tie.Need-sub-left
+sub-left c = search needs
+
+take-out-requires : tie.Need-take-out-requires
+take-out-requires c κs = search needs
+
+head-of-requires : tie.Need-head-of-requires
+head-of-requires c κs =
+    let s = c .before .before .before .before .before in
+    let h = s .args .c .head in
+    let q = s .args .queue .now in
+    let K = s .pre .1 .0 in
+    rw (c .before .take-out .ensures) (
+      takenOut-length h q (omega (arith, K .inside, K .fits, K .whole, s .pre .1 .1 .0)) ∙ K .whole,
+      (takenOut-below 32 h q (s .pre .1 .1 .1 .0), omega (arith, K .fits)),
+    )
+
+returns : tie.Need-returns
+returns c = search needs
+
+pub finished-spec : {M : Type 1} → statement M
+finished-spec =
+    tie.close
+    (tie.spec
+    add-clock
+    mul-done
+    element-write-done
+    sub-left
+    take-out-requires
+    head-of-requires
+    returns)

@@ -1,0 +1,73 @@
+-- After the turn the head stands in the queue, so its task is owed ticks.
+use Prim.Native.Nat.{_<_}
+use native.Mathlib.Omega.{arith}
+use mathlib.Core.Path.{refl}
+use borrow.Author.Needs.{needs}
+use Rattle.lists.specs.Lists.{at}
+use Rattle.lists.proofs.Totals.{at-inside}
+use Rattle.steps.proofs.Turns.{turned-some, turned-room}
+use Rattle.steps.proofs.Legs.{ready-owes}
+use Rattle.steps.proofs.next_leg.Statement.{statement}
+use Rattle.steps.proofs.next_leg.Tie as tie
+
+-- after the turn the head stands in the queue, and its task is owed ticks
+some : (c : tie.After-turned) → c .turned .result .head < c .before .args .c .queued
+some c =
+    let s = c .before in
+    rw (c .turned .ensures)
+    (turned-some (s .args .s) (s .args .c) (s .args .queue .now) (s .pre .0 .kept) (s .pre .0 .some))
+
+owes : (c : tie.After-turned)
+    → 0 < at (c .before .args .owed .now) (at (c .before .args .queue .now) (c .turned .result .head))
+owes c =
+    let s = c .before in
+    ready-owes (s .args .s) (s .args .c) (s .args .queue .now) (s .args .owed .now) (s .pre .0) _ (some c)
+
+known : (c : tie.After-turned) → at (c .before .args .queue .now) (c .turned .result .head) < 32
+known c = omega (arith, at-inside (c .before .args .owed .now) _ (owes c), c .before .pre .0 .owed32)
+
+turned-requires : tie.Need-turned-requires
+turned-requires c κs = search needs
+
+element-copy-out-task : tie.Need-element-copy-out-task
+element-copy-out-task c = omega (arith, some c, c .before .pre .0 .kept .fits)
+
+cast-i : tie.Need-cast-i
+cast-i c = omega (arith, known (c .before))
+
+mul-o : tie.Need-mul-o
+mul-o c = omega (arith, known (c .before))
+
+element-copy-out-o : tie.Need-element-copy-out-o
+element-copy-out-o c = known (c .before)
+
+at-once-requires : tie.Need-at-once-requires
+at-once-requires c κs =
+    let s = c .before .before .before in (
+      s .pre .1,
+      (
+        owes (c .before .before),
+        rw (c .before .before .turned .ensures) (turned-room (s .args .s) (s .args .c) (s .pre .0 .slice)),
+      ),
+    )
+
+returns : tie.Need-returns
+returns c =
+    record {
+      turned = c .before .before .before .turned .ensures;
+      task = refl;
+      owes = refl;
+      once = c .at-once .ensures;
+    }
+
+pub next-leg-spec : {M : Type 1} → statement M
+next-leg-spec =
+    tie.close
+    (tie.spec
+    turned-requires
+    element-copy-out-task
+    cast-i
+    mul-o
+    element-copy-out-o
+    at-once-requires
+    returns)

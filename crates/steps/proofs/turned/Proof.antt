@@ -1,0 +1,38 @@
+-- Each return is a case of the definition's tests.
+use borrow.Author.Tests.{eq-eqb, ne-eqb}
+use borrow.Author.Needs.{needs}
+use Rattle.steps.specs.Parts.{turnedTo}
+use Rattle.steps.proofs.turned.Statement.{statement}
+use Rattle.steps.proofs.turned.Tie as tie
+
+returns : tie.Need-returns
+unfolding turnedTo
+returns c = simp (eq-eqb _ _ (c .if1 .taken))
+
+returns-2 : tie.Need-returns-2
+unfolding turnedTo
+returns-2 c = simp (ne-eqb _ _ (c .before .before .before .if1 .left), ne-eqb _ _ (c .if2 .taken))
+
+add-next : tie.Need-add-next
+add-next c = search needs
+
+returns-3 : tie.Need-returns-3
+unfolding turnedTo
+returns-3 c =
+    simp (
+      ne-eqb _ _ (c .before .before .before .before .before .before .if1 .left),
+      eq-eqb _ _ (c .before .before .before .if2 .left),
+      eq-eqb _ _ (c .if3 .taken),
+    )
+
+returns-4 : tie.Need-returns-4
+unfolding turnedTo
+returns-4 c =
+    simp (
+      ne-eqb _ _ (c .before .before .before .before .before .before .if1 .left),
+      eq-eqb _ _ (c .before .before .before .if2 .left),
+      ne-eqb _ _ (c .if3 .left),
+    )
+
+pub turned-spec : {M : Type 1} → statement M
+turned-spec = tie.close (tie.spec returns returns-2 add-next returns-3 returns-4)

@@ -1,0 +1,73 @@
+-- A run taken apart: its setup, a cursor of small numbers, and the arrays of the queue, of the ticks owed and given,
+-- and of the completions. In order: the state of the parts; the cursor's moves. Assumes nothing.
+use Prim.Native.Nat.{ℕ, _+_, _-_, _≤_, _<_}
+use mathlib.Core.Path.{_≡_}
+use mathlib.Core.Bool.{Bool, false, cond}
+use mathlib.Core.List.{List}
+use lib.ListN.{length, drop, replicate}
+use lib.Dec.{eqb}
+use Rattle.lists.specs.Lists.{at}
+use Rattle.rule.specs.Setups.{isPriority}
+use Rattle.rule.specs.State.{State}
+use Rattle.rule.specs.Tick.{chosen, usedMore}
+use Rattle.rule.specs.declared.Setup.{Setup}
+use Rattle.line.specs.Places.{queueAt}
+use Rattle.steps.specs.declared.Cursor.{Cursor}
+
+-- ---- the state of the parts
+
+abbrev pub parts : Setup → Cursor → List ℕ → List ℕ → List ℕ → List ℕ → State
+parts s c q o g d =
+    record {
+      setup = s;
+      clock = c .clock;
+      idle = c .idle;
+      used = c .used;
+      queue = queueAt s (c .head) (c .queued) q;
+      owed = o;
+      given = g;
+      done = d;
+    }
+
+-- What the parts keep besides: the array holds 0 behind the queue, and the task that is served stands at the head.
+pub record Kept (s : Setup) (c : Cursor) (q : List ℕ) : Type 0 where
+  pub fits : c .queued ≤ 32
+  pub whole : length q ≡ 32
+  pub clear : drop (c .queued) q ≡ replicate (32 - c .queued) 0
+  pub inside : c .head ≤ c .queued - 1
+  pub serves : 0 < c .queued → at q (c .head) ≡ chosen s (queueAt s (c .head) (c .queued) q)
+
+-- ---- the cursor's moves
+
+-- "if the used count equals the slice length, the head moves to the back"
+abbrev pub due : Setup → Cursor → Bool
+due s c = cond (isPriority s) false (eqb (c .used) (s .slice))
+
+abbrev pub nextPlace : Cursor → ℕ
+nextPlace c = cond (eqb (c .head + 1) (c .queued)) 0 (c .head + 1)
+
+unfoldable pub turnedTo : Setup → Cursor → Cursor
+turnedTo s c =
+    record {
+      clock = c .clock;
+      idle = c .idle;
+      used = cond (due s c) 0 (c .used);
+      queued = c .queued;
+      head = cond (due s c) (nextPlace c) (c .head);
+    }
+
+-- n ticks to the head, of which none is the last that it is owed
+unfoldable pub servedTo : Setup → Cursor → ℕ → Cursor
+servedTo s c n =
+    record {
+      clock = c .clock + n;
+      idle = c .idle;
+      used = usedMore s (c .used) n;
+      queued = c .queued;
+      head = c .head;
+    }
+
+-- n idle ticks
+unfoldable pub restedTo : Cursor → ℕ → Cursor
+restedTo c n =
+    record { clock = c .clock + n; idle = c .idle + n; used = c .used; queued = c .queued; head = c .head }
