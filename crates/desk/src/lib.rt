@@ -8,9 +8,6 @@ use replay::readings::TaskTicks;
 use replay::start::SetupAnswer;
 use rule::Run;
 use table::TableAnswer;
-
-mod kept; // kept.rt: calls and readings on a run that a caller keeps
-
 ghost use mathlib.Core.Path.{_≡_};
 ghost use lib.ListN.{length};
 ghost use Rattle.lists.specs.Lists.{total};
@@ -24,6 +21,9 @@ ghost use Rattle.text.specs.Writes.{WroteUpTo};
 ghost use Rattle.report.specs.Report.{reportText};
 ghost use Rattle.replay.specs.Answers.{setupNumber, callNumber, ticksTold, completionTold, nextTold};
 ghost use Rattle.desk.specs.Face.{moveFace, readFace, nextFace, outcomeFace, verdictFace, FaceAnswers};
+
+// Calls and readings on a run that the caller keeps.
+pub mod kept;
 
 #[repr(C)]
 pub struct Move {
