@@ -11,7 +11,7 @@ use Rattle.rule.specs.Table.{completion, completions, unlessRefused, outcomeFro
 use Rattle.log.specs.Blocks.{lengthFits, checkFits, placeFits, setupIn, recordsTo, countFits, unusedZero, layoutFits}
 use Rattle.log.specs.Log.{blockRefusal, judgedFrom, judged}
 use Rattle.log.specs.Records.{entries, columnFrom, column, found, blockAsked, stretch}
-use Rattle.reader.specs.Reading.{takenAt, nexts}
+use Rattle.reader.specs.Reading.{takenAt, setupAt, nexts}
 use Rattle.text.specs.Text.{digits, rowLine, rowLines, endLine, tableText, refusedLine}
 use Rattle.report.specs.Report.{logOutcome, tablePrinted, printed, reportText}
 use Rattle.worked.specs.Made.{Case}
@@ -33,7 +33,7 @@ unfolding total zeros word words check sliceFits bytesFit setupRefusal lengthFit
 records-hold = refl
 
 pub readings-hold : AsSaid (readings ++ readings.rows ++ recordBlocks)
-unfolding total zeros word words check sliceFits bytesFit setupRefusal lengthFits checkFits placeFits setupIn recordsTo countFits unusedZero layoutFits blockRefusal judgedFrom judged entries columnFrom column found blockAsked stretch takenAt nexts
+unfolding total zeros word words check sliceFits bytesFit setupRefusal lengthFits checkFits placeFits setupIn recordsTo countFits unusedZero layoutFits blockRefusal judgedFrom judged entries columnFrom column found blockAsked stretch takenAt setupAt nexts
 readings-hold = refl
 
 pub printed-hold : AsSaid shown.printed
