@@ -20,6 +20,10 @@ unfoldable pub digits : ℕ → ℕ → List ℕ
 digits zero n = []
 digits (suc k) n = cond (ltb n 10) ((48 + n) ∷ []) (digits k (n / 10) ++ ((48 + n % 10) ∷ []))
 
+-- the two digits of a number below 100
+abbrev pub pair : ℕ → List ℕ
+pair n = (48 + n / 10) ∷ (48 + n % 10) ∷ []
+
 -- a 32-bit number in decimal
 abbrev pub decimal : ℕ → List ℕ
 decimal n = digits 10 n

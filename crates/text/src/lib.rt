@@ -3,8 +3,8 @@ ghost use mathlib.Core.Path.{_≡_};
 ghost use Prim.Native.Nat.{_+_, _*_, _≤_, _<_};
 ghost use mathlib.Core.List.{[], _∷_, _++_};
 ghost use lib.ListN.{length};
-ghost use Rattle.text.specs.Text.{digits, decimal, rowLine, rowLines, endLine, tableText, columnsFit, columnsText, refusedLine};
-ghost use Rattle.text.specs.Writes.{Wrote, WroteUpTo, Columns};
+ghost use Rattle.text.specs.Text.{digits, pair, decimal, rowLine, rowLines, endLine, tableText, columnsFit, columnsText, refusedLine};
+ghost use Rattle.text.specs.Writes.{Wrote, WroteUpTo, Digits, Columns};
 
 fn put_byte(out: &mut [u8], at: usize, b: u8) -> usize
     requires { ⌜ at < length (now out) ⌝ }
@@ -14,19 +14,30 @@ fn put_byte(out: &mut [u8], at: usize, b: u8) -> usize
     at + 1
 }
 
-// The decimal digits of n, at most `left` of them.
+// The two decimal digits of a number below 100.
+fn put_pair(out: &mut [u8], at: usize, n: u32) -> usize
+    requires { ⌜ at + 2 ≤ length (now out) ⌝ }
+    requires { ⌜ n < 100 ⌝ }
+    ensures { λ r. ⌜ Wrote (now (out .entry)) (now (out .exit)) at (pair n) r ⌝ }
+{
+    let p = put_byte(out, at, 48 + (n / 10) as u8);
+    put_byte(out, p, 48 + (n % 10) as u8)
+}
+
+// The decimal digits of n, of which there are at most `left`. By two at a time a number takes half the divisions.
 fn put_decimal(out: &mut [u8], at: usize, n: u32, left: usize) -> usize
     requires { ⌜ at + left ≤ length (now out) ⌝ }
+    requires { ⌜ Digits left n ⌝ }
     ensures { λ r. ⌜ WroteUpTo left (now (out .entry)) (now (out .exit)) at (digits left n) r ⌝ }
 {
-    if left == 0 {
-        return at;
-    }
     if n < 10 {
         return put_byte(out, at, 48 + n as u8);
     }
-    let p = put_decimal(out, at, n / 10, left - 1);
-    put_byte(out, p, 48 + (n % 10) as u8)
+    if n < 100 {
+        return put_pair(out, at, n);
+    }
+    let p = put_decimal(out, at, n / 100, left - 2);
+    put_pair(out, p, n % 100)
 }
 
 // The bytes of s.
