@@ -8,10 +8,12 @@ library=target/staticlib/libdesk.a
 fail() { echo "examples: $*"; exit 1; }
 gcc -Wall -Wextra -Werror -std=c11 -Iinclude -fsyntax-only -x c include/anduri.h || fail "the header is not C11"
 g++ -Wall -Wextra -Werror -Iinclude -fsyntax-only -x c++ include/anduri.h || fail "the header is not C++"
-gcc -Wall -Wextra -Werror -std=c11 -Iinclude examples/follow_a_run.c "$library" -o "$made/c" || fail "follow_a_run.c"
+for c in follow_a_run keep_a_run; do
+    gcc -Wall -Wextra -Werror -std=c11 -Iinclude examples/$c.c "$library" -o "$made/$c" || fail "$c.c"
+    "$made/$c" >"$made/$c.out" && cmp "$made/$c.out" examples/$c.out || fail "$c.c"
+done
 rustc --edition 2021 examples/run_a_table.rs -L target/staticlib -l static=desk -o "$made/rust" || fail "run_a_table.rs"
 gcc -shared -o "$made/libanduri.so" -Wl,--whole-archive "$library" -Wl,--no-whole-archive || fail "the shared library"
-"$made/c" >"$made/c.out" && cmp "$made/c.out" examples/follow_a_run.out || fail "follow_a_run.c"
 "$made/rust" >"$made/rust.out" && cmp "$made/rust.out" examples/run_a_table.out || fail "run_a_table.rs"
 python3 examples/read_a_log.py "$made/libanduri.so" examples/case_a.log >"$made/python.out" &&
     cmp "$made/python.out" examples/read_a_log.out || fail "read_a_log.py"

@@ -118,6 +118,30 @@ beside_the_oracle!(jumps, Jumps);
 #[cfg(anduri_lib)]
 beside_the_oracle!(library, anduri_tests::face::Library);
 
+/// Calls and readings in place, beside those by value and beside the oracle and the jumps.
+#[cfg(anduri_lib)]
+mod kept {
+    use super::*;
+    use anduri_tests::kept::Kept;
+
+    #[test]
+    fn setups() {
+        super::setups(&Kept, 4_000);
+    }
+    #[test]
+    fn calls() {
+        super::calls(&Kept, &Oracle, Size::Small, 6_000, 40);
+    }
+    #[test]
+    fn long_calls() {
+        super::calls(&Kept, &Oracle, Size::Small, 40, 1_500);
+    }
+    #[test]
+    fn large_calls() {
+        super::calls(&Kept, &Jumps, Size::Large, 150, 30);
+    }
+}
+
 #[cfg(anduri_lib)]
 mod library_beside_jumps {
     use super::*;

@@ -31,9 +31,9 @@ fn set_up_anew(run: Run, setup: Setup) -> Move
 pub extern "C" fn anduri_setup_in(run: &mut Run, setup: Setup) -> u32
     ensures { λ r. ⌜ Restarted (now (run .entry)) setup r (now (run .exit)) ⌝ }
 {
-    let moved = set_up_anew(*run, setup);
-    *run = moved.run;
-    moved.refusal
+    let fresh = set_up_anew(*run, setup);
+    *run = fresh.run;
+    fresh.refusal
 }
 
 #[no_mangle]
@@ -61,9 +61,9 @@ pub extern "C" fn anduri_drain_in(run: &mut Run) -> u32
     requires { ⌜ MadeRun (now run) ⌝ }
     ensures { λ r. ⌜ Promised (now (run .entry)) drain r (now (run .exit)) ⌝ }
 {
-    let moved = crate::anduri_drain(*run);
-    *run = moved.run;
-    moved.refusal
+    let drained = crate::anduri_drain(*run);
+    *run = drained.run;
+    drained.refusal
 }
 
 // ---- readings

@@ -64,8 +64,7 @@ fn found_at(log: &[u8], block: usize, record: usize) -> Found
     taken.found
 }
 
-// The setup of the log that a reader at a place stands on, which is the same at each record; of a refused log, a fixed
-// one.
+// The setup of the log that a reader at a place stands on, the same at each record; of a refused log, one plain setup.
 fn setup_at(log: &[u8], block: usize, _record: usize) -> Setup
     requires { ⌜ Stands (now log) block _record ⌝ }
     ensures { λ r. ⌜ r ≡ setupAt (now (log .entry)) block ⌝ }

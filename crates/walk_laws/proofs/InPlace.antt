@@ -4,7 +4,7 @@
 --     need h a         what both require of the state h and the parameters' values a
 --     Said h a d       what g ensures of its result d;  Claim h a s h′: what f ensures of its answer s and the state
 --                      h′ at exit
---     signature, ended, clauses, function      f's, to which what `rattle check` makes of f computes
+--     ended, clauses, function                 f's, to which what `rattle check` makes of f computes
 --     thin             f meets its contract, from that g does, and that Said gives Claim
 -- In order: the two functions, f's exit, the walk, the law. Assumes nothing.
 use Prim.Native.Nat.{ℕ, suc}
@@ -35,7 +35,7 @@ use denote.RattleType.{RattleType, owns}
 use denote.Laws.{Is, shows}
 use denote.Memory.{mem, pointee}
 use denote.Ref.{RefT, MutRef, now, ptr-vals, mut-tells}
-use denote.Signature.{Signature, plain}
+use denote.Signature.{plain}
 use denote.Steps.{only, opens, closes, owned, peeks, heard, nothing}
 use denote.Struct.Declared.{Declared, fields, shape, row}
 use denote.Struct.Struct.{Plains, layout}
@@ -78,9 +78,6 @@ module _ (T : Declared) (L : LL.Laws T) (ps : List Data) (P : Answered T L)
 
   abbrev pub ended : Ended
   ended = con.lent R ps (S .type)
-
-  abbrev pub signature : Signature
-  signature = ended .signature
 
   -- the places of f's locals: the answer, the reference, the parameters, g's result, the state
   abbrev atD : ℕ
@@ -173,7 +170,8 @@ module _ (T : Declared) (L : LL.Laws T) (ps : List Data) (P : Answered T L)
         module _ (C : Calls 𝓤 H) (Λ : Loops 𝓤 H) (fm : FmC 𝓤 H (W .laws) C)
             (known : Triple 𝓤 (C g) (Callee 𝓤 need H A)) where
           walk : ent 𝓤
-              (sep 𝓤 (onEntry 𝓤 H A signature (κ, tt) (q, tt) x (vptr b o ∷ [], lists 1 (κ, tt) ps a)) (need h a′))
+              (sep 𝓤 (onEntry 𝓤 H A (ended .signature) (κ, tt) (q, tt) x (vptr b o ∷ [], lists 1 (κ, tt) ps a))
+              (need h a′))
               (WpFn 𝓤 H C Λ (function g) (vptr b o ∷ machine 1 (κ, tt) ps a) Post)
           walk =
               qed W
@@ -245,7 +243,7 @@ module _ (T : Declared) (L : LL.Laws T) (ps : List Data) (P : Answered T L)
           walk (κs .0) (qs .0) (a .0 .ptr .0) (a .0 .ptr .1) (a .0 .name) (a .0 .now) (a .1) (are .1) C Λ fm known)
 
       meets : (𝓣 : Tables 𝓤 H) → Triple 𝓤 (𝓣 .C g) (Callee 𝓤 need H A)
-          → Meets 𝓤 H A signature (WpFn 𝓤 H (𝓣 .C) (𝓣 .Λ) (function g)) (closing 𝓤 H A ended (clauses 𝓤 need))
+          → Meets 𝓤 H A (ended .signature) (WpFn 𝓤 H (𝓣 .C) (𝓣 .Λ) (function g)) (closing 𝓤 H A ended (clauses 𝓤 need))
       meets 𝓣 known =
           walk-meets 𝓤 H A ended stayed W (goes-ref 𝓤 H A W 1 0 tt (plain (λ _. R)), goes 1 𝓤 H A W ps) (clauses 𝓤 need)
           (WpFn 𝓤 H (𝓣 .C) (𝓣 .Λ) (function g)) (WpFn-mono 𝓤 H (W .laws) 𝓣 (function g))
@@ -257,8 +255,8 @@ module _ (T : Declared) (L : LL.Laws T) (ps : List Data) (P : Answered T L)
         (γ : Env) where
       pub thin : (name g : Name) → Closed 𝓤 H (tables 𝓤 H 𝓜 𝓡 γ .C) (tables 𝓤 H 𝓜 𝓡 γ .Λ) name (function g)
           → (r : Routine) → γ g ≡ r → Triple 𝓤 (𝓡 .run r) (Callee 𝓤 need H (𝓖 .A))
-          → Meets 𝓤 H (𝓖 .A) signature (𝓡 .run (γ name)) (closing 𝓤 H (𝓖 .A) ended (clauses 𝓤 need))
+          → Meets 𝓤 H (𝓖 .A) (ended .signature) (𝓡 .run (γ name)) (closing 𝓤 H (𝓖 .A) ended (clauses 𝓤 need))
       thin name g unfolded r calls met =
-          over 𝓤 H 𝓜 𝓡 γ (tripleOf 𝓤 H (𝓖 .A) signature (closing 𝓤 H (𝓖 .A) ended (clauses 𝓤 need)))
+          over 𝓤 H 𝓜 𝓡 γ (tripleOf 𝓤 H (𝓖 .A) (ended .signature) (closing 𝓤 H (𝓖 .A) ended (clauses 𝓤 need)))
           (Callee 𝓤 need H (𝓖 .A)) name (function g) unfolded g r calls met
           (meets 𝓤 H (𝓖 .A) (givenOf 𝓤 H 𝓜 𝓖) need claims g)

@@ -3,7 +3,7 @@
 -- over g by value. All types are plain data.
 --     need h a         what both require of the state h and the parameters' values a
 --     Said h a r       what g ensures of its result r, and f of the same
---     signature, ended, clauses, function      f's, to which what `rattle check` makes of f computes
+--     ended, clauses, function                 f's, to which what `rattle check` makes of f computes
 --     thin             f meets its contract, from that g does
 -- In order: the two functions, f's exit, the walk, the law. Assumes nothing.
 use Prim.Native.Nat.{ℕ, suc}
@@ -30,7 +30,7 @@ use denote.RattleType.{RattleType, owns}
 use denote.Laws.{Is, shows}
 use denote.Memory.{partAt, pointee}
 use denote.Ref.{RefT, ShrRef, now, ptr-vals, shr-tells}
-use denote.Signature.{Signature, plain}
+use denote.Signature.{plain}
 use denote.Steps.{looks, shuts, peeks, heard, nothing}
 use denote.Struct.Declared.{Declared, fields, shape, row}
 use denote.Struct.Struct.{Plains, layout}
@@ -63,9 +63,6 @@ module _ (T : Declared) (L : LL.Laws T) (ps : List Data) (S : Data)
 
   abbrev pub ended : Ended
   ended = con.shared R ps (S .type)
-
-  abbrev pub signature : Signature
-  signature = ended .signature
 
   -- the place of the state among f's locals: the answer, the reference, the parameters, the state
   abbrev atR : ℕ
@@ -144,7 +141,8 @@ module _ (T : Declared) (L : LL.Laws T) (ps : List Data) (S : Data)
         module _ (C : Calls 𝓤 H) (Λ : Loops 𝓤 H) (fm : FmC 𝓤 H (W .laws) C)
             (known : Triple 𝓤 (C g) (Callee 𝓤 need H A)) where
           walk : ent 𝓤
-              (sep 𝓤 (onEntry 𝓤 H A signature (κ, tt) (q, tt) x (vptr b o ∷ [], lists 1 (κ, tt) ps a)) (need h a′))
+              (sep 𝓤 (onEntry 𝓤 H A (ended .signature) (κ, tt) (q, tt) x (vptr b o ∷ [], lists 1 (κ, tt) ps a))
+              (need h a′))
               (WpFn 𝓤 H C Λ (function g) (vptr b o ∷ machine 1 (κ, tt) ps a) Post)
           walk =
               qed W
@@ -202,7 +200,7 @@ module _ (T : Declared) (L : LL.Laws T) (ps : List Data) (S : Data)
           walk (κs .0) (qs .0) (a .0 .ptr .0) (a .0 .ptr .1) (a .0 .name) (a .0 .now) (a .1) (are .1) C Λ fm known)
 
       meets : (𝓣 : Tables 𝓤 H) → Triple 𝓤 (𝓣 .C g) (Callee 𝓤 need H A)
-          → Meets 𝓤 H A signature (WpFn 𝓤 H (𝓣 .C) (𝓣 .Λ) (function g)) (closing 𝓤 H A ended (clauses 𝓤 need))
+          → Meets 𝓤 H A (ended .signature) (WpFn 𝓤 H (𝓣 .C) (𝓣 .Λ) (function g)) (closing 𝓤 H A ended (clauses 𝓤 need))
       meets 𝓣 known =
           walk-meets 𝓤 H A ended stayed W
           (goes-none-ref 𝓤 H A W 1 (0 ∷ []) tt (plain (λ _. R)) yes, goes 1 𝓤 H A W ps) (clauses 𝓤 need)
@@ -213,8 +211,8 @@ module _ (T : Declared) (L : LL.Laws T) (ps : List Data) (S : Data)
         (need : T .D → Values 0 tt ps → SProp 𝓤) (γ : Env) where
       pub thin : (name g : Name) → Closed 𝓤 H (tables 𝓤 H 𝓜 𝓡 γ .C) (tables 𝓤 H 𝓜 𝓡 γ .Λ) name (function g)
           → (r : Routine) → γ g ≡ r → Triple 𝓤 (𝓡 .run r) (Callee 𝓤 need H (𝓖 .A))
-          → Meets 𝓤 H (𝓖 .A) signature (𝓡 .run (γ name)) (closing 𝓤 H (𝓖 .A) ended (clauses 𝓤 need))
+          → Meets 𝓤 H (𝓖 .A) (ended .signature) (𝓡 .run (γ name)) (closing 𝓤 H (𝓖 .A) ended (clauses 𝓤 need))
       thin name g unfolded r calls met =
-          over 𝓤 H 𝓜 𝓡 γ (tripleOf 𝓤 H (𝓖 .A) signature (closing 𝓤 H (𝓖 .A) ended (clauses 𝓤 need)))
+          over 𝓤 H 𝓜 𝓡 γ (tripleOf 𝓤 H (𝓖 .A) (ended .signature) (closing 𝓤 H (𝓖 .A) ended (clauses 𝓤 need)))
           (Callee 𝓤 need H (𝓖 .A)) name (function g) unfolded g r calls met
           (meets 𝓤 H (𝓖 .A) (givenOf 𝓤 H 𝓜 𝓖) need g)

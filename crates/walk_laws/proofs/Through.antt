@@ -5,7 +5,7 @@
 --     need h a         what both require of the state h and the parameters' values a
 --     Claim h a s h′   what g ensures of its answer s and the state h′ at exit;  Said h a d: what f ensures of its
 --                      result d
---     signature, ended, clauses, function      f's, to which what `rattle check` makes of f computes
+--     ended, clauses, function                 f's, to which what `rattle check` makes of f computes
 --     thin             f meets its contract, from that g does, and that Claim gives Said
 -- In order: the two functions, f's exit, the walk, the law. Assumes nothing.
 use Prim.Native.Nat.{ℕ, suc}
@@ -38,7 +38,6 @@ use denote.Laws.{Is, shows}
 use denote.Lend.{lends-ref, ref-back}
 use denote.Memory.{mem, pointee}
 use denote.Ref.{RefT, MutRef}
-use denote.Signature.{Signature}
 use denote.Steps.{only, owned, peeks, heard}
 use denote.Struct.Declared.{Declared, fields, shape, row}
 use denote.Struct.Struct.{Plains, layout}
@@ -80,9 +79,6 @@ module _ (T : Declared) (L : LL.Laws T) (ps : List Data) (S D : Data) (ν : Sym)
 
   abbrev pub ended : Ended
   ended = con.by-value R ps (D .type)
-
-  abbrev pub signature : Signature
-  signature = ended .signature
 
   -- the place of f's local k of those after its result, the state and the parameters: the state that is lent, the
   -- answer, the reference, the state at exit
@@ -188,7 +184,7 @@ module _ (T : Declared) (L : LL.Laws T) (ps : List Data) (S D : Data) (ν : Sym)
         module _ (C : Calls 𝓤 H) (Λ : Loops 𝓤 H) (fm : FmC 𝓤 H (W .laws) C)
             (known : Triple 𝓤 (C g) (Callee 𝓤 need H A)) where
           walk : ent 𝓤
-              (sep 𝓤 (onEntry 𝓤 H A signature tt tt (h, a) (vals h, lists 0 tt ps a)) (need h a))
+              (sep 𝓤 (onEntry 𝓤 H A (ended .signature) tt tt (h, a) (vals h, lists 0 tt ps a)) (need h a))
               (WpFn 𝓤 H C Λ (function g) (LL.val T L h ∷ machine 0 tt ps a) Post)
           walk =
               qed W ((‵ ftrue ⊛ ‵ (owns (R ∷ rows 0 tt ps) (h, a) (vals h, lists 0 tt ps a))) ∷ raw (need h a) ∷ []) ∵
@@ -277,7 +273,7 @@ module _ (T : Declared) (L : LL.Laws T) (ps : List Data) (S D : Data) (ν : Sym)
           (λ κs qs bounds a _ are. walk (a .0) (a .1) (are .0) (are .1) C Λ fm known)
 
       meets : (𝓣 : Tables 𝓤 H) → Triple 𝓤 (𝓣 .C g) (Callee 𝓤 need H A)
-          → Meets 𝓤 H A signature (WpFn 𝓤 H (𝓣 .C) (𝓣 .Λ) (function g)) (closing 𝓤 H A ended (clauses 𝓤 need))
+          → Meets 𝓤 H A (ended .signature) (WpFn 𝓤 H (𝓣 .C) (𝓣 .Λ) (function g)) (closing 𝓤 H A ended (clauses 𝓤 need))
       meets 𝓣 known =
           walk-meets 𝓤 H A ended stayed W (goes-none 𝓤 H A W 0 (λ _. R) yes (λ κs. silentR), goes 0 𝓤 H A W ps)
           (clauses 𝓤 need) (WpFn 𝓤 H (𝓣 .C) (𝓣 .Λ) (function g)) (WpFn-mono 𝓤 H (W .laws) 𝓣 (function g))
@@ -293,8 +289,8 @@ module _ (T : Declared) (L : LL.Laws T) (ps : List Data) (S D : Data) (ν : Sym)
         (γ : Env) where
       pub thin : (name g : Name) → Closed 𝓤 H (tables 𝓤 H 𝓜 𝓡 γ .C) (tables 𝓤 H 𝓜 𝓡 γ .Λ) name (function g)
           → (r : Routine) → γ g ≡ r → Triple 𝓤 (𝓡 .run r) (Callee 𝓤 need H (𝓖 .A))
-          → Meets 𝓤 H (𝓖 .A) signature (𝓡 .run (γ name)) (closing 𝓤 H (𝓖 .A) ended (clauses 𝓤 need))
+          → Meets 𝓤 H (𝓖 .A) (ended .signature) (𝓡 .run (γ name)) (closing 𝓤 H (𝓖 .A) ended (clauses 𝓤 need))
       thin name g unfolded r calls met =
-          over 𝓤 H 𝓜 𝓡 γ (tripleOf 𝓤 H (𝓖 .A) signature (closing 𝓤 H (𝓖 .A) ended (clauses 𝓤 need)))
+          over 𝓤 H 𝓜 𝓡 γ (tripleOf 𝓤 H (𝓖 .A) (ended .signature) (closing 𝓤 H (𝓖 .A) ended (clauses 𝓤 need)))
           (Callee 𝓤 need H (𝓖 .A)) name (function g) unfolded g r calls met
           (meets val-is make-is 𝓤 H (𝓖 .A) (givenOf 𝓤 H 𝓜 𝓖) need claims g)

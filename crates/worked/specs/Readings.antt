@@ -4,6 +4,7 @@ use mathlib.Core.List.{List, [], _∷_, _++_}
 use lib.ListN.{take, replicate}
 use Rattle.words.specs.Words.{word}
 use Rattle.rule.specs.Setups.{asked}
+use Rattle.rule.specs.declared.Setup.{Setup}
 use Rattle.log.specs.Log.{Verdict, accepted, refused, judged}
 use Rattle.log.specs.Records.{setupOf, column, found, blockAsked, stretch}
 use Rattle.log.specs.declared.Found.{Found}
@@ -36,12 +37,18 @@ stands l place w = record { found = number (word l place); said = number w }
 abbrev listed : ℕ → List ℕ → List ℕ → Case
 listed w log l = record { found = bytes (column w log); said = bytes l }
 
+-- the setup that a reader gives from the opening on; of a refused log a plain one
+abbrev opensOn : List ℕ → Setup → Case
+opensOn log p = record { found = setup (setupAt log (firstBlock (judged log))); said = setup p }
+
 abbrev pub readings : List Case
 readings =
     stands (9 ∷ 1 ∷ 2 ∷ 3 ∷ 4 ∷ 9 ∷ []) 1 67_305_985 ∷ stands (9 ∷ 5 ∷ []) 1 5 ∷ stands (9 ∷ []) 1 0
     ∷ reads long ∷ reads ranks
     ∷ record { found = setup (setupOf caseA); said = setup (asked 2 2 1 (replicate 32 0)) }
     ∷ record { found = setup (setupOf ranks); said = setup (asked 1 3 0 (7 ∷ 3 ∷ 1 ∷ replicate 29 0)) }
+    ∷ opensOn caseA (asked 2 2 1 (replicate 32 0)) ∷ opensOn ranks (asked 1 3 0 (7 ∷ 3 ∷ 1 ∷ replicate 29 0))
+    ∷ opensOn (head ++ wrong) (asked 1 1 0 (replicate 32 0))
     ∷ listed 0 caseA (0 ∷ 2 ∷ []) ∷ listed 1 caseA (0 ∷ 1 ∷ []) ∷ listed 2 caseA (5 ∷ 2 ∷ []) ∷ listed 0 head []
     ∷ listed 0 long (replicate 40 0 ++ 11 ∷ 16_909_060 ∷ [])
     ∷ listed 1 long (replicate 40 0 ++ 12 ∷ 15 ∷ []) ∷ listed 2 long (replicate 40 0 ++ 13 ∷ 16 ∷ [])
@@ -78,8 +85,6 @@ rowsRead =
     ∷ takes caseA 1 1 (at (Row (recorded 2 1 2)) 1 2) ∷ takes caseA 1 2 (at End 1 2)
     ∷ takes caseA 1 3 (at End 1 3) ∷ takes caseA 0 0 (at End 0 0)
     ∷ takes long 1 40 (at (Row (recorded 11 12 13)) 2 0) ∷ takes long 2 1 (at End 2 1)
-    ∷ record { found = setup (setupAt caseA 1); said = setup (asked 2 2 1 (replicate 32 0)) }
-    ∷ record { found = setup (setupAt (head ++ wrong) 0); said = setup (asked 1 1 0 (replicate 32 0)) }
     ∷ record { found = row (firstFound caseA); said = row (Row (recorded 0 0 5)) }
     ∷ record { found = row (firstFound (head ++ wrong)); said = row End }
     ∷ []
