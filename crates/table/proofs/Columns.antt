@@ -39,7 +39,7 @@ module _ (p : Setup) (ts ks ms before : List ℕ) where
     pub columns-tabled : Tabled p (length ts) (length ks) (length ms) (length before)
     columns-tabled = table-tabled p (length ts) (length ks) (length ms) (length before) (judged-columns z ∙ f)
 
-    pub columns-fitting : (noted : List ℕ) → 1_024 < length noted → Fitting p ts ks ms noted
+    pub columns-fitting : (noted : List ℕ) → length ts < length noted → Fitting p ts ks ms noted
     columns-fitting noted h =
         let q = columns-tabled in
         record {
@@ -47,7 +47,7 @@ module _ (p : Setup) (ts ks ms before : List ℕ) where
           tasks-too = q .tasks-equal;
           amounts-too = q .amounts-equal;
           few = q .few;
-          room = omega (arith, q .few);
+          room = h;
         }
 
   -- ---- the three ways
