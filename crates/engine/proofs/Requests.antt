@@ -18,8 +18,8 @@ use Rattle.laws.proofs.Refusals.{request-accepted}
 use Rattle.laws.proofs.Made.{queue-short, request-sound}
 use Rattle.line.specs.Places.{queueAt}
 use Rattle.steps.specs.Parts.{parts, Kept}
-use Rattle.engine.specs.Inner.{earlyRefusal, Opens}
-use Rattle.engine.specs.Promises.{Reached, asked, Asks}
+use Rattle.engine.specs.Inner.{Opens}
+use Rattle.engine.specs.Promises.{Reached, earlyRefusal, asked, Asks}
 use Rattle.steps.specs.declared.Cursor.{Cursor}
 use Rattle.line.proofs.Queues.{queueAt-length}
 
@@ -76,14 +76,14 @@ module _ (s : State) (t k a : ℕ) where
   early-small =
       below-14 (ltb lastTime t) (ltb t (s .clock)) (leb (s .setup .count) k) (not (within 1 mostAmount a))
 
-  refusal-now : (early ≡ 0 → ⊥) → requestRefusal s t k a ≡ early
+  pub refusal-now : (early ≡ 0 → ⊥) → requestRefusal s t k a ≡ early
   refusal-now h = refusal-early ∙ cond-false _ early (ne-eqb early 0 h)
 
-  refusal-open : early ≡ 0 → 0 < at (moved s t .owed) k → requestRefusal s t k a ≡ 14
+  pub refusal-open : early ≡ 0 → 0 < at (moved s t .owed) k → requestRefusal s t k a ≡ 14
   refusal-open e h =
       refusal-early ∙ cond-true _ early (eq-eqb early 0 e) ∙ cond-true 14 0 (lt-ltb 0 (at (moved s t .owed) k) h)
 
-  refusal-none : early ≡ 0 → at (moved s t .owed) k ≡ 0 → requestRefusal s t k a ≡ 0
+  pub refusal-none : early ≡ 0 → at (moved s t .owed) k ≡ 0 → requestRefusal s t k a ≡ 0
   refusal-none e h =
       refusal-early
       ∙ cond-true _ early (eq-eqb early 0 e)

@@ -1,5 +1,5 @@
--- Laws of the queue's array as a list. In order: the ring; the ring put straight; a task taken out at its place.
--- Assumes nothing.
+-- Laws of the queue's array as a list. In order: the ring; the ring put straight; one task more; a task taken out at its
+-- place. Assumes nothing.
 use Prim.Native.Nat.{ℕ, zero, suc, _+_, _-_, _≤_, _<_}
 use native.Mathlib.Omega.{arith}
 use native.Mathlib.Numerals.{add-one}
@@ -9,7 +9,8 @@ use mathlib.Core.List.{List, [], _∷_, _++_, append-assoc, append-nil}
 use lib.ListN.{length, take, drop, set, replicate, length-append, length-drop, take-append-drop}
 use lib.ListN.{replicate-append-replicate}
 use lib.Seq.{take-suc, take-length, take-take, take-at, take-append-le, take-append-add, length-take-le}
-use lib.Seq.{drop-cons, drop-length, drop-drop, drop-at, drop-append-le, drop-append-add, getD-drop, set-at}
+use lib.Seq.{drop-cons, drop-length, drop-drop, drop-at, drop-append-le, drop-append-add, drop-set-lt, getD-drop}
+use lib.Seq.{set-at}
 use lib.Seq.{slice-cons, length-slice, paste, paste-zero, length-paste, take-paste, drop-paste}
 use lib.Dec.{eqb, ltb}
 use borrow.Author.Tests.{eqb-true, ltb-false}
@@ -91,6 +92,16 @@ straight-paste h n q b l =
     (sym (drop-drop h m part) ∙ ap (drop h) g ∙ drop-drop h m q ∙ ap (λ (k : ℕ). drop k q) e)
     ∙ ap (λ (x : List ℕ). x ++ take h q ++ drop n q) (f ∙ sym (drop-take h n q b))
     ∙ ap (λ (x : List ℕ). drop h (take n q) ++ x ++ drop n q) (sym (take-take h n q b))
+
+-- ---- one task more
+
+pub clear-set : (n k : ℕ) (q : List ℕ) → n < 32 → drop n q ≡ replicate (32 - n) 0
+    → drop (n + 1) (set q n k) ≡ replicate (32 - (n + 1)) 0
+clear-set n k q b z =
+    let m : 32 - n ≡ suc (32 - (n + 1)) = omega arith in
+    drop-set-lt (n + 1) q n k (omega arith)
+    ∙ sym (drop-drop 1 n q)
+    ∙ ap (drop 1) (z ∙ ap (λ (j : ℕ). replicate j 0) m)
 
 -- ---- a task taken out
 
