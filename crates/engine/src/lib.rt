@@ -105,7 +105,7 @@ pub struct Asked {
 }
 
 // A request on the parts. Refused by 14 it leaves them moved to the time. Only tables call it: with one caller it is part of
-// their loop, which saves 50 instructions a row.
+// their loop, which saves over 50 instructions a row.
 pub fn ask(
     s: Setup,
     c: Cursor,

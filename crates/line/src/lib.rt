@@ -75,7 +75,7 @@ fn best_place(priority: &[u8; 32], n: usize, queue: &[u8; 32]) -> usize
     while k < n {
         let other = queue[k];
         let p = priority[other as usize];
-        // Most of the others have a smaller priority: judged first and apart, such a place takes 7 instructions and not 11.
+        // Most of the others have a smaller priority. Judged first and apart, such a place takes half the instructions.
         if top <= p {
             if overtakes(task, top, other, p) {
                 place = k;

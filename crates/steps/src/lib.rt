@@ -249,7 +249,7 @@ pub fn step(
     if c.queued == 0 {
         return rested(c, limit);
     }
-    // With a branch of its own priority has no turn to look for: a step takes 21 instructions and not 42.
+    // With a branch of its own priority has no turn to look for: a step takes 22 instructions and not 55.
     if s.policy == 1 {
         return give_leg(s, c, limit, queue, owed, given, done);
     }
