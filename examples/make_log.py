@@ -28,7 +28,8 @@ def numbers(words, most):
     return [int(word) for word in words]
 
 
-def log_of(lines):
+def read_text(lines):
+    """The setup, three numbers and the priority bytes, and the rows."""
     setup, rows = None, []
     for place, line in enumerate(lines, 1):
         words = line.split("#")[0].split()
@@ -49,6 +50,10 @@ def log_of(lines):
             raise ValueError(f"line {place}: {fault}") from None
     if setup is None:
         raise ValueError("there is no setup line")
+    return setup, rows
+
+
+def log_of(setup, rows):
     log = block(struct.pack("<4I", 0, *setup[0]) + setup[1])
     for start in range(0, len(rows), BLOCK_RECORDS):
         part = rows[start : start + BLOCK_RECORDS]
@@ -63,7 +68,7 @@ def main(arguments):
         return 2
     try:
         with open(arguments[0], encoding="utf-8") as text:
-            log = log_of(text)
+            log = log_of(*read_text(text))
         with open(arguments[1], "wb") as out:
             out.write(log)
     except (OSError, ValueError) as fault:

@@ -4,8 +4,12 @@
  *
  * A run is a plain value: every call takes the run by value and gives back the run afterwards. A refused call gives back the
  * very run that was passed, byte for byte. Each function takes every number and every length; none waits, allocates or
- * keeps anything. The run passed in must be one that anduri_setup gave, or a call on such a run; nothing else is asked of a
+ * keeps anything. The run passed in must be one that a setup gave, or a call on such a run; nothing else is asked of a
  * caller, and nothing is promised for a run made up by hand.
+ *
+ * A caller that keeps one run has the same calls in place: anduri_request_in and the others with _in move the run behind a
+ * pointer and give the refusal alone, and the readings with _of take a pointer to the run. Answers and runs are those of the
+ * calls by value, byte for byte. The pointer is not null, and no other thread uses the run during the call.
  *
  * Refusal numbers (0: accepted):
  *    1  policy not 1 or 2                          20  columns of unequal length
@@ -72,6 +76,28 @@ anduri_moved anduri_advance(anduri_run run, uint32_t time);
 /* Moves the clock to the first instant at which nothing is open. Never refused. */
 anduri_moved anduri_drain(anduri_run run);
 
+/* ---- a run that the caller keeps
+ *
+ * Each gives its refusal, or 0. A refused call leaves the run as it was, byte for byte.
+ *
+ *     anduri_run run;
+ *     if (anduri_setup_in(&run, (anduri_setup_numbers){.policy = 2, .count = 2, .slice = 1}) == 0)
+ *         anduri_request_in(&run, 0, 0, 5);
+ */
+
+/* Makes the run a fresh one of this setup. Refused 1 to 4 in that order, 4 for a byte not zero that must be. The run need not
+ * have been set up before; where it was not, a refusal leaves nothing on which a call may be made. */
+uint32_t anduri_setup_in(anduri_run *run, anduri_setup_numbers setup);
+
+/* Moves the clock to the time and opens the task with this amount of ticks. Refused 10, 11, 12, 13, 14 in that order. */
+uint32_t anduri_request_in(anduri_run *run, uint32_t time, uint32_t task, uint32_t amount);
+
+/* Moves the clock to the time. Refused 10, 11. */
+uint32_t anduri_advance_in(anduri_run *run, uint32_t time);
+
+/* Moves the clock to the first instant at which nothing is open. Never refused. */
+uint32_t anduri_drain_in(anduri_run *run);
+
 /* ---- readings */
 
 uint32_t anduri_clock(anduri_run run);
@@ -95,6 +121,15 @@ typedef struct anduri_next_done {
 } anduri_next_done;
 
 anduri_next_done anduri_next(anduri_run run);
+
+/* The same of a run that the caller keeps. */
+uint32_t anduri_clock_of(const anduri_run *run);
+uint32_t anduri_total_owed_of(const anduri_run *run);
+uint32_t anduri_idle_of(const anduri_run *run);
+anduri_reading anduri_owed_of(const anduri_run *run, uint32_t task);
+anduri_reading anduri_given_of(const anduri_run *run, uint32_t task);
+anduri_reading anduri_completed_of(const anduri_run *run, uint32_t task);
+anduri_next_done anduri_next_of(const anduri_run *run);
 
 /* ---- tables */
 

@@ -17,5 +17,6 @@ fn main() {
     println!("cargo:rerun-if-changed={}", archive.display());
     println!("cargo:rustc-link-search=native={}", archive.parent().unwrap().display());
     println!("cargo:rustc-link-lib=static={name}");
+    println!("cargo:rustc-env=ANDURI_ARCHIVE={}", archive.display());
     println!("cargo:rustc-cfg=anduri_lib");
 }

@@ -1,6 +1,6 @@
 #!/bin/sh
-# Each word in back quotes in README.md and docs/ is a path of the repository, a command, or stands as a whole word in a source
-# file or as a must-fail edit's name. Prints what does not, and fails if anything is printed.
+# Each word in back quotes in README.md and docs/ is a path of the repository, a command, a vector or a must-fail edit, or
+# stands as a whole word in a source file. Prints what does not, and fails if anything is printed.
 cd "$(dirname "$0")/.." || exit 2
 words=$(mktemp) || exit 2
 trap 'rm -f "$words"' EXIT
@@ -9,8 +9,9 @@ find crates tests bench examples include -type f \
     -exec cat {} + 2>/dev/null | tr -s ' \t(){}[],;:"' '\n' | sort -u >"$words"
 lost=$(find README.md docs -name '*.md' -exec grep -oh '`[^` ]*`' {} + 2>/dev/null | tr -d '`' | sort -u |
     while IFS= read -r w; do
-        [ -e "$w" ] && continue
-        [ -e "crates/$w" ] && continue
+        # shellcheck disable=SC2086  # a path may have a *
+        ls -d $w >/dev/null 2>&1 && continue
+        { [ -e "crates/$w" ] || [ -e "tests/vectors/$w.log" ]; } && continue
         find crates -name "$w.edit" -o -name "$w.antt" | grep -q . && continue
         grep -qxF -- "$w" "$words" && continue
         grep -rqwF --include='*.rt' --include='*.antt' --include='*.rs' --include='*.sh' -- "$w" crates tests && continue

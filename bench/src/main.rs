@@ -1,16 +1,20 @@
-//! Replays one workload's table so many times with one implementation, and prints a sum over what came out.
+//! Does one thing with one workload and one implementation, so that its instructions are the difference between two
+//! processes.
 //!
-//! usage: anduri-bench WORKLOAD IMPLEMENTATION TABLES
-//!
-//! One process measures one thing, so that the instructions of a table are the difference between two tables and one.
+//! usage: anduri-bench table WORKLOAD IMPLEMENTATION TABLES   replays the table so many times, prints a sum over what came out
+//!        anduri-bench log WORKLOAD                           writes the workload as a log
+//!        anduri-bench judge WORKLOAD JUDGE TIMES             judges that log so many times: library, plain, or copy
+//!        anduri-bench speeds WORKLOAD                        prints the judges' megabytes a second
 
 mod judge;
+mod logs;
 mod slices;
 mod ticks;
 mod workloads;
 
 use anduri_tests::{Columns, Refusal, Setup};
 use std::hint::black_box;
+use std::io::Write;
 
 type Table = fn(&Setup, Columns, &mut [u32]) -> Result<u32, Refusal>;
 
@@ -30,22 +34,7 @@ fn implementation(name: &str) -> Option<Table> {
     }
 }
 
-fn main() {
-    let arguments: Vec<String> = std::env::args().skip(1).collect();
-    let chosen = match &arguments[..] {
-        [workload, name, tables] => {
-            workloads::workload(workload).zip(implementation(name)).zip(tables.parse::<u32>().ok())
-        }
-        _ => None,
-    };
-    let Some(((workload, table), tables)) = chosen else {
-        eprintln!("usage: anduri-bench WORKLOAD IMPLEMENTATION TABLES");
-        eprintln!(
-            "workloads: {}; implementations: ticks, slices, and library where it is linked",
-            workloads::NAMES.join(" ")
-        );
-        std::process::exit(2);
-    };
+fn tables(workload: workloads::Workload, table: Table, tables: u32) {
     let columns = Columns { times: &workload.times, tasks: &workload.tasks, amounts: &workload.amounts };
     let mut result = vec![0; workload.times.len()];
     let mut sum = 0u64;
@@ -57,10 +46,37 @@ fn main() {
     println!("{sum}");
 }
 
+/// Does what the arguments say; none where they say nothing that is known.
+fn done(arguments: &[&str]) -> Option<()> {
+    match arguments {
+        ["table", workload, name, count] => {
+            tables(workloads::workload(workload)?, implementation(name)?, count.parse().ok()?);
+            Some(())
+        }
+        ["log", workload] => std::io::stdout().write_all(&logs::log(workload)?).ok(),
+        ["judge", workload, name, count] => logs::judge(&logs::log(workload)?, name, count.parse().ok()?),
+        ["speeds", workload] => {
+            logs::speeds(&logs::log(workload)?);
+            Some(())
+        }
+        _ => None,
+    }
+}
+
+fn main() {
+    let arguments: Vec<String> = std::env::args().skip(1).collect();
+    let arguments: Vec<&str> = arguments.iter().map(String::as_str).collect();
+    if done(&arguments).is_none() {
+        eprintln!("usage: anduri-bench (table WORKLOAD IMPLEMENTATION TABLES | log WORKLOAD | judge WORKLOAD JUDGE TIMES | speeds WORKLOAD)");
+        eprintln!("workloads: {} G_AMOUNT_SLICE; implementations: ticks, slices, library", workloads::NAMES.join(" "));
+        std::process::exit(2);
+    }
+}
+
 #[cfg(test)]
 mod tests {
     use super::*;
-    use anduri_tests::gen::{table_case, Random, Size};
+    use anduri_tests::gen::{log_case, table_case, Random, Size};
     use anduri_tests::jumps::Jumps;
     use anduri_tests::Replay;
 
@@ -84,9 +100,18 @@ mod tests {
         }
     }
 
+    /// The plain judge of logs too.
+    #[test]
+    fn judges_agree() {
+        for seed in 1..=3_000 {
+            let log = log_case(&mut Random::new(seed)).bytes();
+            assert_eq!(judge::judge_log(&log), Jumps.judge(&log), "seed {seed}");
+        }
+    }
+
     #[test]
     fn workloads_are_taken() {
-        for name in workloads::NAMES {
+        for name in workloads::NAMES.into_iter().chain(["G_1000_10", "G_1000000_65535"]) {
             let workload = workloads::workload(name).unwrap();
             let columns = Columns { times: &workload.times, tasks: &workload.tasks, amounts: &workload.amounts };
             let mut result = vec![0; workload.times.len()];

@@ -1,7 +1,7 @@
 //! A step for each slice or change, plainly written to be fast: under priority a mask of the open tasks in the order of
 //! their ranks, under round robin a ring of 32 places.
 
-use crate::judge::{judge, judge_row};
+use crate::judge::{judge_row, judge_table};
 use anduri_tests::{Columns, Refusal, Setup};
 
 /// What the policies share: ticks are given in stretches, and a row is done when its task is owed nothing more.
@@ -131,7 +131,7 @@ fn replay(count: u32, columns: Columns, result: &mut [u32], line: &mut impl Line
 }
 
 pub fn table(setup: &Setup, columns: Columns, result: &mut [u32]) -> Result<u32, Refusal> {
-    judge(setup, &columns, result.len())?;
+    judge_table(setup, &columns, result.len())?;
     if setup.policy == 1 {
         replay(setup.count, columns, result, &mut Ranked::new(setup))
     } else {

@@ -1,6 +1,6 @@
 //! Tick by tick, as the rule is written.
 
-use crate::judge::{judge, judge_row};
+use crate::judge::{judge_row, judge_table};
 use anduri_tests::{Columns, Refusal, Setup};
 
 struct Run<'a> {
@@ -42,7 +42,7 @@ impl Run<'_> {
 }
 
 pub fn table(setup: &Setup, columns: Columns, result: &mut [u32]) -> Result<u32, Refusal> {
-    judge(setup, &columns, result.len())?;
+    judge_table(setup, &columns, result.len())?;
     let Columns { times, tasks, amounts } = columns;
     let done = vec![0; times.len()];
     let mut run = Run { setup, clock: 0, used: 0, queue: Vec::with_capacity(32), owed: [0; 32], row: [0; 32], done };

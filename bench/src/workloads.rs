@@ -35,6 +35,7 @@ fn batches(setup: Setup, batches: u32, least: u32, most: u32, spread: u32) -> Wo
     workload
 }
 
+/// A named workload; `G_AMOUNT_SLICE` is 32 rows of half that amount to all of it, round robin with that slice.
 pub fn workload(name: &str) -> Option<Workload> {
     let robin = |slice| Setup::round_robin(32, slice);
     let mut random = Random::new(1);
@@ -55,6 +56,10 @@ pub fn workload(name: &str) -> Option<Workload> {
             tasks: (0..64).map(|i| i % 32).collect(),
             amounts: (0..64).map(|_| random.within(1, 1_000)).collect(),
         },
-        _ => return None,
+        _ => {
+            let (amount, slice) = name.strip_prefix("G_")?.split_once('_')?;
+            let amount: u32 = amount.parse().ok()?;
+            batches(robin(slice.parse().ok()?), 1, amount / 2, amount, 4)
+        }
     })
 }

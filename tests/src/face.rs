@@ -35,16 +35,16 @@ struct Moved {
 
 #[repr(C)]
 #[derive(Clone, Copy)]
-struct Reading {
+pub struct Reading {
     refusal: u32,
     value: u32,
 }
 
 #[repr(C)]
 #[derive(Clone, Copy)]
-struct NextDone {
-    task: u32,
-    at: u32,
+pub struct NextDone {
+    pub task: u32,
+    pub at: u32,
 }
 
 #[repr(C)]
@@ -106,7 +106,7 @@ fn settle(run: &mut Run, moved: Moved) -> Result<(), u32> {
     Ok(())
 }
 
-fn read(reading: Reading) -> Result<u32, u32> {
+pub fn read(reading: Reading) -> Result<u32, u32> {
     match reading {
         Reading { refusal: 0, value } => Ok(value),
         Reading { refusal, value } => {

@@ -1,14 +1,19 @@
 //! Evidence beside the proofs, written from document 01 alone.
 //!
-//! `oracle` follows the rule tick by tick, `jumps` from change to change, and `face` calls the library. All three are a
-//! `Replay`, so `compare` can set any two side by side on what `worked` and `gen` hold.
+//! `oracle` follows the rule tick by tick, `jumps` from change to change, `face` calls the library by value and `kept` in place.
+//! All are a `Replay`, so `compare` can set any two side by side on what `worked` and `gen` hold.
 
 pub mod compare;
+pub mod damages;
+pub mod edges;
 #[cfg(anduri_lib)]
 pub mod face;
 pub mod gen;
 pub mod jumps;
+#[cfg(anduri_lib)]
+pub mod kept;
 pub mod oracle;
+pub mod script;
 pub mod shrink;
 pub mod vectors;
 pub mod worked;

@@ -43,11 +43,9 @@ pub fn smallest<C: Case>(case: &C, fails: impl Fn(&C) -> bool) -> C {
     small
 }
 
+/// Smaller numbers, by ever smaller steps down: a limit is reached from far above in few of them.
 fn numbers_below(number: u32) -> Vec<u32> {
-    let mut below = vec![0, number / 2, number.saturating_sub(1)];
-    below.retain(|&candidate| candidate < number);
-    below.dedup();
-    below
+    (0..32).map(|halvings| number >> halvings).take_while(|&step| step > 0).map(|step| number - step).collect()
 }
 
 fn setups_below(setup: &Setup) -> Vec<Setup> {
@@ -95,14 +93,15 @@ fn lists_below<T: Clone>(list: &[T], below: impl Fn(&T) -> Vec<T>) -> Vec<Vec<T>
     smaller
 }
 
-fn show_setup(setup: &Setup) -> String {
+/// The setup as a line; priorities that are left out are 0.
+pub fn show_setup(setup: &Setup) -> String {
     let used = setup.priorities.iter().rposition(|&byte| byte != 0).map_or(0, |last| last + 1);
     let mut text = format!("setup {} {} {}", setup.policy, setup.count, setup.slice);
+    if setup.priorities.len() != 32 {
+        write!(text, " of {}", setup.priorities.len()).unwrap();
+    }
     for byte in &setup.priorities[..used] {
         write!(text, " {byte}").unwrap();
-    }
-    if setup.priorities.len() != 32 {
-        write!(text, "  # {} priority bytes", setup.priorities.len()).unwrap();
     }
     text + "\n"
 }

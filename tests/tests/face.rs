@@ -1,8 +1,9 @@
 //! What only the library's struct shows: every field of a run, and what stands in the place of a run that was not made.
 #![cfg(anduri_lib)]
 
-use anduri_tests::face::{refused_setup, Library, Run};
-use anduri_tests::gen::{call_case, Random, Size};
+use anduri_tests::face::{refused_setup, Library, Run, RunSetup};
+use anduri_tests::gen::{call_case, edge_setup, Random, Size};
+use anduri_tests::kept::{set_up_anew, Kept};
 use anduri_tests::oracle::{self, Oracle};
 use anduri_tests::{Replay, Setup};
 
@@ -43,6 +44,36 @@ fn every_field_is_the_rules() {
             agrees(&run, &model);
         }
     }
+}
+
+/// A run that is kept is set up anew amid its calls: a refusal leaves it, and an acceptance makes it a fresh one.
+#[test]
+fn kept_runs_are_set_up_anew() {
+    let (mut accepted, mut refused) = (0, 0);
+    for seed in 1..=2_000 {
+        println!("seed {seed}");
+        let mut random = Random::new(seed);
+        let case = call_case(&mut random, Size::Small, 10);
+        let mut run = Kept.setup(&case.setup).unwrap();
+        for call in case.calls {
+            let _ = Kept.call(&mut run, call);
+        }
+        let setup = edge_setup(&mut random);
+        let Ok(priority) = <[u8; 32]>::try_from(&setup.priorities[..]) else { continue };
+        let numbers = RunSetup { policy: setup.policy, count: setup.count, slice: setup.slice, priority };
+        match Library.setup(&setup) {
+            Ok(fresh) => {
+                assert_eq!(set_up_anew(&mut run, numbers).0, 0);
+                assert_eq!(run, fresh);
+                accepted += 1;
+            }
+            Err(number) => {
+                assert_eq!(set_up_anew(&mut run, numbers), (number, true));
+                refused += 1;
+            }
+        }
+    }
+    assert!(accepted > 100 && refused > 100, "{accepted} accepted, {refused} refused");
 }
 
 #[test]

@@ -1,11 +1,13 @@
 //! A replay with one fault in an answer or reading: the comparison finds each, and prints a small case with its seed.
 
 use anduri_tests::compare;
-use anduri_tests::gen::{call_case, log_case, table_case, Random, Size};
+use anduri_tests::damages::every_damage;
+use anduri_tests::gen::{call_case, damage, log_case, table_case, Damage, Random, Size};
 use anduri_tests::jumps::{self, Jumps};
 use anduri_tests::oracle::Oracle;
 use anduri_tests::shrink::failure;
-use anduri_tests::{Columns, Refusal, Replay, Row, Setup, BLOCK};
+use anduri_tests::{Columns, Refusal, Replay, Row, Setup, BLOCK, MOST_BLOCKS};
+use std::ops::Range;
 
 macro_rules! faults {
     ($($name:ident)*) => {
@@ -32,6 +34,12 @@ faults! {
     RowFromZero
     LogWithoutChecks
     RecordsOfLastBlock
+    BlockFromOne
+    FullLogTooLong
+    MostRecordsUnseen
+    PlaceUnseen
+    UnusedBytesUnseen
+    SetupBeforeLayout
     NoLastNewline
 }
 
@@ -128,13 +136,28 @@ impl Replay for Faulty {
 
     fn judge(&self, log: &[u8]) -> Result<u32, Refusal> {
         let answer = Jumps.judge(log);
-        match answer {
-            Err(Refusal { number: 31, .. }) if self.has(Fault::LogWithoutChecks) => {
-                let mut repaired = log.to_vec();
-                anduri_tests::gen::repair(&mut repaired);
-                Jumps.judge(&repaired)
+        let with = |steps: &[Damage]| {
+            let mut log = log.to_vec();
+            steps.iter().chain([&Damage::Repair]).for_each(|step| damage(&mut log, step));
+            Jumps.judge(&log)
+        };
+        let zeros = |block, words: Range<usize>| -> Vec<Damage> {
+            words.map(|word| Damage::Word { block, word, value: 0 }).collect()
+        };
+        let at = answer.err().map_or(0, |refusal| refusal.place as usize);
+        match (self.0, answer) {
+            (Fault::LogWithoutChecks, Err(Refusal { number: 31, .. })) => with(&[]),
+            (Fault::RecordsOfLastBlock, Ok(records)) if log.len() > 2 * BLOCK => Ok(records % 41),
+            (Fault::BlockFromOne, Err(Refusal { number: number @ 31..=33, .. })) => Err(Refusal::at(number, at + 1)),
+            (Fault::FullLogTooLong, _) if log.len() == MOST_BLOCKS * BLOCK => Err(Refusal::alone(30)),
+            (Fault::MostRecordsUnseen, Err(Refusal { number: 33, place: 25 })) => Ok(1_025),
+            (Fault::PlaceUnseen, Err(Refusal { number: 32, .. })) => {
+                with(&[Damage::Word { block: at, word: 0, value: at as u32 }])
             }
-            Ok(records) if self.has(Fault::RecordsOfLastBlock) && log.len() > 2 * BLOCK => Ok(records % 41),
+            (Fault::UnusedBytesUnseen, Err(Refusal { number: 33, .. })) if at > 0 => with(&zeros(at, 125..127)),
+            (Fault::SetupBeforeLayout, Err(Refusal { number: 33, place: 0 })) => {
+                with(&zeros(0, 12..127)).err().filter(|refusal| refusal.number < 5).map_or(answer, Err)
+            }
             _ => answer,
         }
     }
@@ -167,8 +190,23 @@ fn each_is_found_and_shrunk() {
         let text = first_failure(fault).unwrap_or_else(|| panic!("{fault:?} is not found"));
         assert!(text.contains("# seed ") && text.contains("setup "), "{fault:?}: {text}");
         let lines = text.lines().filter(|line| !line.starts_with('#')).count();
-        let most = if fault == Fault::RecordsOfLastBlock { 50 } else { 7 };
+        let most = match fault {
+            Fault::RecordsOfLastBlock => 50,
+            // No smaller log has the fault.
+            Fault::FullLogTooLong | Fault::MostRecordsUnseen => 1_030,
+            _ => 7,
+        };
         assert!(lines <= most, "{fault:?} is not small:\n{text}");
         println!("{fault:?}\n{text}\n");
+    }
+}
+
+/// The damages that are listed, and not drawn, find each fault of judging too.
+#[test]
+fn listed_damages_find_each_of_a_log() {
+    let from = ALL.iter().position(|&fault| fault == Fault::LogWithoutChecks).unwrap();
+    for &fault in &ALL[from..] {
+        let found = every_damage().find(|case| compare::log_case(&Faulty(fault), &Oracle, case).is_err());
+        assert!(found.is_some(), "{fault:?} is not found");
     }
 }

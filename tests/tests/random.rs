@@ -118,14 +118,47 @@ beside_the_oracle!(jumps, Jumps);
 #[cfg(anduri_lib)]
 beside_the_oracle!(library, anduri_tests::face::Library);
 
+/// Calls and readings in place, beside those by value and beside the oracle and the jumps.
+#[cfg(anduri_lib)]
+mod kept {
+    use super::*;
+    use anduri_tests::kept::Kept;
+
+    #[test]
+    fn setups() {
+        super::setups(&Kept, 4_000);
+    }
+    #[test]
+    fn calls() {
+        super::calls(&Kept, &Oracle, Size::Small, 6_000, 40);
+    }
+    #[test]
+    fn long_calls() {
+        super::calls(&Kept, &Oracle, Size::Small, 40, 1_500);
+    }
+    #[test]
+    fn large_calls() {
+        super::calls(&Kept, &Jumps, Size::Large, 150, 30);
+    }
+}
+
 #[cfg(anduri_lib)]
 mod library_beside_jumps {
     use super::*;
+    use anduri_tests::edges::edge_case;
     use anduri_tests::face::Library;
 
     #[test]
     fn large_calls() {
         super::calls(&Library, &Jumps, Size::Large, 150, 30);
+    }
+    /// Numbers on and beside every limit.
+    #[test]
+    fn limits() {
+        for seed in seeds(1_000) {
+            let case = edge_case(&mut Random::new(seed), 30);
+            hold("limits", seed, &case, |case| compare::calls(&Library, &Jumps, case));
+        }
     }
     #[test]
     fn large_tables() {

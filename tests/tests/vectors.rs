@@ -92,6 +92,16 @@ fn program_prints_them() {
     }
 }
 
+/// The logs of the examples have the text that stands beside them.
+#[test]
+fn oracle_prints_the_examples() {
+    let examples = Path::new(env!("CARGO_MANIFEST_DIR")).join("../examples");
+    for name in ["case_a", "watch"] {
+        let [log, text] = ["log", "out"].map(|end| fs::read(examples.join(format!("{name}.{end}"))).unwrap());
+        assert_eq!(String::from_utf8_lossy(&Oracle.report(&log)), String::from_utf8_lossy(&text), "{name}");
+    }
+}
+
 /// The example's script writes the bytes of the vector.
 #[test]
 fn make_log_writes_case_a() {

@@ -73,13 +73,13 @@ fn setups<R: Replay>(replay: &R) {
         assert_eq!(judged(2, 1, slice, &zero), number, "slice {slice}");
         assert_eq!(judged(1, 1, slice, &zero), if slice == 0 { 0 } else { 3 }, "slice {slice} under priority");
     }
-    // Point 2: bytes at and past the count are 0 under priority, all under round robin.
+    // Bytes at and past the count are 0 under priority, all under round robin.
     for at in 0..32 {
         assert_eq!(judged(1, 7, 0, &byte(at)), if at < 7 { 0 } else { 4 }, "byte {at}, count 7");
         assert_eq!(judged(1, 32, 0, &byte(at)), 0, "byte {at}, count 32");
         assert_eq!(judged(2, 32, 1, &byte(at)), 4, "byte {at}, round robin");
     }
-    // Point 3: the length comes after 1, 2 and 3.
+    // The length comes after 1, 2 and 3.
     for length in [0, 1, 31, 33, 64] {
         let bytes = vec![0; length];
         assert_eq!(judged(2, 1, 0, &bytes), 3);
@@ -92,7 +92,7 @@ fn setups<R: Replay>(replay: &R) {
 
 fn runs_and_readings<R: Replay>(replay: &R) {
     let robin = Setup::round_robin;
-    // Point 1: a refused setup makes nothing and changes nothing.
+    // A refused setup makes nothing and changes nothing.
     let mut run = replay.setup(&robin(1, 1)).unwrap();
     replay.request(&mut run, row(0, 0, 2)).unwrap();
     assert!(replay.setup(&robin(0, 1)).is_err());
@@ -106,11 +106,11 @@ fn runs_and_readings<R: Replay>(replay: &R) {
         assert_eq!((fresh.clock, fresh.total_owed, fresh.idle, fresh.next), (0, 0, 0, None));
         for entry in &fresh.tasks {
             let expected = if entry.task < 3 { (Ok(0), Ok(0), Ok(None)) } else { (Err(12), Err(12), Err(12)) };
-            assert_eq!((entry.owed, entry.given, entry.completed), expected, "point 12, task {}", entry.task);
+            assert_eq!((entry.owed, entry.given, entry.completed), expected, "task {}", entry.task);
         }
     }
 
-    // Points 4 and 5: drained as far as it goes, every timed call is refused by 10 or 11.
+    // Drained as far as it goes, every timed call is refused by 10 or 11.
     for setup in [robin(32, 1_000), Setup::priority(&[9; 32])] {
         let mut run = replay.setup(&setup).unwrap();
         for task in 0..32 {
@@ -128,7 +128,7 @@ fn runs_and_readings<R: Replay>(replay: &R) {
         assert_eq!(replay.clock(&run), 4_032_000_000);
     }
 
-    // Point 6: an advance to the clock changes nothing, also where the head's slice is used up.
+    // An advance to the clock changes nothing, also where the head's slice is used up.
     let mut run = replay.setup(&robin(2, 1)).unwrap();
     replay.request(&mut run, row(0, 0, 5)).unwrap();
     for _ in 0..3 {
@@ -152,14 +152,14 @@ fn runs_and_readings<R: Replay>(replay: &R) {
         );
     }
 
-    // Point 13: the next reading ignores the last time.
+    // The next reading ignores the last time.
     for (_, setup) in both(1) {
         let mut run = replay.setup(&setup).unwrap();
         replay.request(&mut run, row(LAST_TIME, 0, 1)).unwrap();
         assert_eq!(replay.next(&run), Some((0, 4_000_000_001)));
     }
 
-    // Point 14: I as calls; the clock stays 0.
+    // I as calls; the clock stays 0.
     for (_, setup) in both(1) {
         let mut run = replay.setup(&setup).unwrap();
         replay.request(&mut run, row(0, 0, 2)).unwrap();
@@ -173,7 +173,7 @@ fn runs_and_readings<R: Replay>(replay: &R) {
     replay.request(&mut run, row(10, 0, 2)).unwrap();
     assert_eq!((replay.completed(&run, 0), replay.idle(&run), replay.next(&run)), (Ok(Some(1)), 9, Some((0, 12))));
 
-    // Point 33: the smaller number takes the processor at once from an equal.
+    // The smaller number takes the processor at once from an equal.
     let mut run = replay.setup(&Setup::priority(&[0, 0])).unwrap();
     replay.request(&mut run, row(0, 1, 3)).unwrap();
     replay.request(&mut run, row(1, 0, 2)).unwrap();
@@ -206,10 +206,10 @@ fn tables<R: Replay>(replay: &R) {
     assert_eq!(replay.table(&robin, columns, &mut result), Ok(1_024));
     let expected: Vec<u32> = (1..=1_024).chain([MARK; 6]).collect();
     assert_eq!(result, expected);
-    // Point 18: 22 comes before a bad row.
+    // 22 comes before a bad row.
     let columns = Columns { times: &[0], tasks: &[9], amounts: &[0] };
     assert_eq!(replay.table(&robin, columns, &mut []), Err(Refusal::alone(22)));
-    // Point 11: the row gets the completion of its own request.
+    // The row gets the completion of its own request.
     assert_eq!(done(replay, &robin, &[(0, 0, 1), (10, 0, 2)]), [1, 12]);
 }
 
@@ -224,7 +224,7 @@ fn logs<R: Replay>(replay: &R) {
         }
         let Refusal { number, place } = each.refusal;
         assert_eq!(replay.report(&log), format!("refused {number} at {place}\n").as_bytes(), "{}", each.name);
-        // Points 26 to 28: a refused row is no fault of the log.
+        // A refused row is no fault of the log.
         let expected = if number < 30 && number > 4 { Ok(()) } else { Err(each.refusal) };
         assert_eq!(replay.judge(&log).map(|_| ()), expected, "{}", each.name);
     }
@@ -243,7 +243,7 @@ fn logs<R: Replay>(replay: &R) {
         assert_eq!(replay.judge(&log_of(&setup, &single_ticks(count))), answer, "{count} records");
     }
     assert_eq!(replay.judge(&log_of(&setup, &single_ticks(1_026))), Err(Refusal::alone(30)));
-    // Point 31.
+    // The refused line stands alone, and a log without rows prints the header and the end.
     assert_eq!(replay.report(&log_of(&setup, &[])), b"row task asked amount done\nend 0\n");
     let case_a = log_of(&Setup::round_robin(2, 1), &rows(&[(0, 0, 5), (2, 1, 2)]));
     assert_eq!(case_a.len(), 1_024);
@@ -285,7 +285,7 @@ each_replay!(jumps, anduri_tests::jumps::Jumps);
 #[cfg(anduri_lib)]
 each_replay!(library, anduri_tests::face::Library);
 
-/// Point 32: the whole log is judged before 34, and the used records are a stretch of the log.
+/// The whole log is judged before 34, and the used records are a stretch of the log.
 #[test]
 fn record_blocks() {
     let (setup, rows_60) = whole_log();
@@ -302,7 +302,7 @@ fn record_blocks() {
     assert_eq!(record_block(&[], 0), Err(Refusal::alone(30)));
 }
 
-/// Point 19: one is added once.
+/// One is added once.
 #[test]
 fn the_check() {
     assert_eq!(oracle::check_of(&[0; 512]), 1);

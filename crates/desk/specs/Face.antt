@@ -9,13 +9,20 @@ use Rattle.rule.specs.Table.{written}
 use Rattle.log.specs.Log as log
 use Rattle.log.specs.Log.{accepted, judged}
 use Rattle.log.specs.Records.{askedTimes}
+use Rattle.replay.specs.Answers.{callNumber}
+use Rattle.replay.specs.declared.calls.Moved.{Moved}
 use Rattle.table.specs.Answers.{answerOf}
 use Rattle.table.specs.declared.TableAnswer.{TableAnswer}
 use Rattle.table.specs.declared.TableAnswer.the-variants.{Finished, Refused}
+use Rattle.desk.specs.declared.Move.{Move}
 use Rattle.desk.specs.declared.Read.{Read}
 use Rattle.desk.specs.declared.NextDone.{NextDone}
 use Rattle.desk.specs.declared.Outcome.{Outcome}
 use Rattle.desk.specs.declared.Verdict.{Verdict}
+
+-- a call: its number, 0 where it is accepted, and the run afterwards
+abbrev pub moveFace : Moved → Move
+moveFace m = record { refusal = callNumber (m .answer); run = m .run }
 
 -- a reading of a task: its number, 0 where it is accepted, and the value; a value of 0 is also "never"
 abbrev pub readFace : Reading → Read

@@ -20,7 +20,10 @@ ghost use Rattle.log.specs.Log.{judged};
 ghost use Rattle.text.specs.Writes.{WroteUpTo};
 ghost use Rattle.report.specs.Report.{reportText};
 ghost use Rattle.replay.specs.Answers.{setupNumber, callNumber, ticksTold, completionTold, nextTold};
-ghost use Rattle.desk.specs.Face.{readFace, nextFace, outcomeFace, verdictFace, FaceAnswers};
+ghost use Rattle.desk.specs.Face.{moveFace, readFace, nextFace, outcomeFace, verdictFace, FaceAnswers};
+
+// Calls and readings on a run that the caller keeps.
+pub mod kept;
 
 #[repr(C)]
 pub struct Move {
@@ -149,7 +152,7 @@ pub extern "C" fn anduri_setup(policy: u32, count: u32, slice: u32, priorities: 
 }
 
 fn move_of(moved: Moved) -> Move
-    ensures { λ r. ⌜ (r .refusal ≡ callNumber (moved .answer)) × (r .run ≡ moved .run) ⌝ }
+    ensures { λ r. ⌜ r ≡ moveFace moved ⌝ }
 {
     let answer = moved.answer;
     let refusal = call_number(answer);

@@ -3,5 +3,4 @@ pub mod Judging
 pub mod Accepted
 pub mod Rows
 pub mod Asking
-pub mod Computed
 pub mod Unique

@@ -50,9 +50,8 @@ countFits n i before c =
     && (eqb (i + 1) n || eqb c 41)  -- "Each but the last has 41 records."
     && leb (before + c) 1_024  -- "At most 1,024 records in all."
 
--- "Block 0: .. bytes 48 to 507 zero." "Other blocks: .. records of 12 bytes from byte 8 ..; unused record bytes and
--- bytes
--- 500 to 507 zero."
+-- "Block 0: .. bytes 48 to 507 zero." "Other blocks: .. records of 12 bytes from byte 8 ..; unused record bytes
+-- and bytes 500 to 507 zero."
 abbrev pub firstUnused : ℕ → List ℕ → ℕ
 firstUnused i b = cond (eqb i 0) 48 (8 + 12 * count b)
 

@@ -1,5 +1,3 @@
 pub mod Blocks
 pub mod Log
 pub mod Records
-pub mod Cases
-pub mod Limits

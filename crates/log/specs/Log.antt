@@ -30,8 +30,7 @@ blockRefusal log i =
     ∷ refuse (setupRefusal (setupIn (block log i))) (eqb i 0)
     ∷ [])
 
--- "block by block": `left` of them from block i on. The setup's refusals are those of block 0, so that their place is
--- 0.
+-- "block by block": `left` of them from block i on. The setup's refusals are those of block 0, and so have place 0.
 unfoldable pub judgedFrom : List ℕ → ℕ → ℕ → Verdict
 judgedFrom log i zero = accepted
 judgedFrom log i (suc left) =

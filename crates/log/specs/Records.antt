@@ -64,8 +64,8 @@ abbrev pub afterLog : Verdict → Verdict → Verdict
 afterLog accepted next = next
 afterLog (refused n i) next = refused n i
 
--- 34, "a record block asked for that the log does not have (block 0 included)"; "first judges the whole log so, then
--- 34"
+-- 34, "a record block asked for that the log does not have (block 0 included)"; "first judges the whole log so,
+-- then 34"
 unfoldable pub blockAsked : List ℕ → ℕ → Verdict
 blockAsked log i = afterLog (judged log) (cond (leb 1 i && ltb i (blocks log)) accepted (refused 34 0))
 

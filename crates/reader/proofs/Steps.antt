@@ -18,8 +18,8 @@ use Rattle.log.specs.declared.Found.{Found}
 use Rattle.log.specs.declared.Found.the-variants.{Row, End}
 use Rattle.reader.proofs.Places.{has-row-zero}
 use Rattle.reader.specs.declared.Taken.{Taken}
-use Rattle.reader.specs.Reading.{rowNumber, takenAt, Reached, Stands, firstBlock, opened, Standing}
-use Rattle.reader.specs.Reading.{nexts, foundRows}
+use Rattle.reader.specs.Reading.{rowNumber, takenAt, Reached, Stands, firstBlock, opened, Standing, nexts}
+use Rattle.reader.specs.Reading.{foundRows}
 
 -- ---- places
 

@@ -1,8 +1,7 @@
 -- No two outcomes satisfy a promise of the reader: an opening's verdict and reader, a step's record and the reader
--- after
--- it. Assumes nothing.
+-- after it. Assumes nothing.
 use Prim.Native.Nat.{ℕ}
-use mathlib.Core.Path.{_≡_, sym, _∙_}
+use mathlib.Core.Path.{sym, _∙_}
 use mathlib.Core.List.{List}
 use denote.Ref.{RefT, now}
 use Rattle.rule.specs.View.{Determined}
@@ -16,9 +15,9 @@ pub start-determined : (log : List ℕ)
     → Determined (Started log)
 start-determined log x y p q =
     λ i. record {
-      verdict = told-determined (judged log) (x .verdict) (y .verdict) (p .0) (q .0) i;
+      verdict = told-determined (judged log) (x .verdict) (y .verdict) (p .verdict) (q .verdict) i;
       block =
-          (p .1 ∙ sym (q .1)) i;
+          (p .block ∙ sym (q .block)) i;
     }
 
 pub opened-determined : (log : RefT (List ℕ))
@@ -26,8 +25,8 @@ pub opened-determined : (log : RefT (List ℕ))
 opened-determined log x y p q =
     λ i. record {
       verdict =
-          told-determined (judged (now log)) (x .verdict) (y .verdict) (p .0) (q .0) i;
-      reader = (p .1 ∙ sym (q .1)) i;
+          told-determined (judged (now log)) (x .verdict) (y .verdict) (p .verdict) (q .verdict) i;
+      reader = (p .reader ∙ sym (q .reader)) i;
     }
 
 pub first-determined : (log : List ℕ)
@@ -35,10 +34,10 @@ pub first-determined : (log : List ℕ)
 first-determined log x y p q =
     λ i. record {
       verdict =
-          told-determined (judged log) (x .verdict) (y .verdict) (p .0) (q .0) i;
-      found = (p .1 ∙ sym (q .1)) i;
+          told-determined (judged log) (x .verdict) (y .verdict) (p .verdict) (q .verdict) i;
+      found = (p .found ∙ sym (q .found)) i;
     }
 
 pub next-determined : (reader : Reader)
     → Determined (λ (r : Found × Reader). Stepped reader (r .0) (r .1))
-next-determined reader x y p q = λ i. ((p .0 ∙ sym (q .0)) i, (p .1 ∙ sym (q .1)) i)
+next-determined reader x y p q = λ i. ((p .found ∙ sym (q .found)) i, (p .after ∙ sym (q .after)) i)

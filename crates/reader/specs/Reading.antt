@@ -6,9 +6,11 @@ use mathlib.Core.List.{List, [], _∷_}
 use lib.ListN.{length}
 use lib.Dec.{eqb, leb, ltb}
 use denote.Ref.{RefT, now}
+use Rattle.rule.specs.Setups.{plain}
 use Rattle.rule.specs.Calls.{Call, request, advance, drain}
+use Rattle.rule.specs.declared.Setup.{Setup}
 use Rattle.log.specs.Log.{Verdict, accepted, refused, told, judged, Reads}
-use Rattle.log.specs.Records.{askedTimes, rowAt}
+use Rattle.log.specs.Records.{setupOf, askedTimes, rowAt}
 use Rattle.log.specs.declared.Found.{Found}
 use Rattle.log.specs.declared.Found.the-variants.{Row, End}
 use Rattle.reader.specs.declared.First.{First}
@@ -38,6 +40,10 @@ takenAt log b r =
     })
     (record { found = End; block = b; «record» = r })
 
+-- the setup of the log; on a refused log, where a reader stays at block 0, that of `plain`
+unfoldable pub setupAt : List ℕ → ℕ → Setup
+setupAt log b = cond (leb 1 b) (setupOf log) plain
+
 -- a place that is reached from the first record of a log that reads
 pub record Reached (log : List ℕ) (b r : ℕ) : Type 0 where
   pub reads : Reads log
@@ -55,15 +61,17 @@ abbrev pub firstBlock : Verdict → ℕ
 firstBlock accepted = 1
 firstBlock (refused n i) = 0
 
-abbrev pub Started : List ℕ → Start → Type 0
-Started log s = (told (s .verdict) ≡ judged log) × (s .block ≡ firstBlock (judged log))
+pub record Started (log : List ℕ) (s : Start) : Type 0 where
+  pub verdict : told (s .verdict) ≡ judged log
+  pub block : s .block ≡ firstBlock (judged log)
 
 -- the reader that an opening gives, on the caller's own bytes
 abbrev pub opened : RefT (List ℕ) → Reader
 opened log = record { log = log; block = firstBlock (judged (now log)); «record» = 0 }
 
-abbrev pub OpenedOn : RefT (List ℕ) → Opened → Type 0
-OpenedOn log o = (told (o .verdict) ≡ judged (now log)) × (o .reader ≡ opened log)
+pub record OpenedOn (log : RefT (List ℕ)) (o : Opened) : Type 0 where
+  pub verdict : told (o .verdict) ≡ judged (now log)
+  pub reader : o .reader ≡ opened log
 
 abbrev pub Standing : Reader → Type 0
 Standing r = Stands (now (r .log)) (r .block) (r .«record»)
@@ -71,19 +79,25 @@ Standing r = Stands (now (r .log)) (r .block) (r .«record»)
 abbrev pub takenBy : Reader → Taken
 takenBy r = takenAt (now (r .log)) (r .block) (r .«record»)
 
+abbrev pub setupBy : Reader → Setup
+setupBy r = setupAt (now (r .log)) (r .block)
+
 -- the reader on the same bytes, at the place after
 abbrev pub moved : Reader → Reader
 moved r = record { log = r .log; block = takenBy r .block; «record» = takenBy r .«record» }
 
-abbrev pub Stepped : Reader → Found → Reader → Type 0
-Stepped r f after = (f ≡ takenBy r .found) × (after ≡ moved r)
+-- what a step finds, and the reader at exit
+pub record Stepped (r : Reader) (f : Found) (exit : Reader) : Type 0 where
+  pub found : f ≡ takenBy r .found
+  pub after : exit ≡ moved r
 
 -- the first record of a log; none of a refused one
 abbrev pub firstFound : List ℕ → Found
 firstFound log = takenAt log (firstBlock (judged log)) 0 .found
 
-abbrev pub FirstOf : List ℕ → First → Type 0
-FirstOf log f = (told (f .verdict) ≡ judged log) × (f .found ≡ firstFound log)
+pub record FirstOf (log : List ℕ) (f : First) : Type 0 where
+  pub verdict : told (f .verdict) ≡ judged log
+  pub found : f .found ≡ firstFound log
 
 -- ---- reading on
 

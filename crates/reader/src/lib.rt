@@ -1,10 +1,12 @@
 // The reader of a log: it stays on the caller's bytes and knows its next record. The work is done by `take_at`, on the
 // bytes and two numbers; over the struct stand thin calls.
 ghost use mathlib.Core.Path.{_≡_};
-ghost use Rattle.reader.specs.Reading.{takenAt, Stands, Started, OpenedOn, Standing, takenBy, Stepped, FirstOf};
+ghost use Rattle.reader.specs.Reading.{takenAt, setupAt, Stands, Started, OpenedOn, Standing, takenBy, setupBy};
+ghost use Rattle.reader.specs.Reading.{Stepped, FirstOf};
 use log::Found;
 use log::Judged;
 use log::Record;
+use rule::Setup;
 use words::word_at;
 
 // What stands at a place of a log, and the place after it.
@@ -51,6 +53,31 @@ pub fn take_at(log: &[u8], block: usize, record: usize) -> Taken
         block,
         record: record + 1,
     }
+}
+
+// The record at a place, or that there is none.
+fn found_at(log: &[u8], block: usize, record: usize) -> Found
+    requires { ⌜ Stands (now log) block «record» ⌝ }
+    ensures { λ r. ⌜ r ≡ takenAt (now (log .entry)) block «record» .found ⌝ }
+{
+    let taken = take_at(log, block, record);
+    taken.found
+}
+
+// The setup of the log that a reader at a place stands on, the same at each record; of a refused log, one plain setup.
+fn setup_at(log: &[u8], block: usize, _record: usize) -> Setup
+    requires { ⌜ Stands (now log) block _record ⌝ }
+    ensures { λ r. ⌜ r ≡ setupAt (now (log .entry)) block ⌝ }
+{
+    if block == 0 {
+        return Setup {
+            policy: 1,
+            count: 1,
+            slice: 0,
+            priority: [0; 32],
+        };
+    }
+    log::setup_of(log)
 }
 
 // What a log is judged to be, and the block at which its reading begins.
@@ -106,8 +133,15 @@ pub fn peek<'a>(reader: Reader<'a>) -> Found
     requires { ⌜ Standing reader ⌝ }
     ensures { λ r. ⌜ r ≡ takenBy (reader .entry) .found ⌝ }
 {
-    let taken = take_at(reader.log, reader.block, reader.record);
-    taken.found
+    found_at(reader.log, reader.block, reader.record)
+}
+
+// The setup of the log that the reader stands on; of a refused log, one plain setup.
+pub fn setup_of<'a>(reader: Reader<'a>) -> Setup
+    requires { ⌜ Standing reader ⌝ }
+    ensures { λ r. ⌜ r ≡ setupBy (reader .entry) ⌝ }
+{
+    setup_at(reader.log, reader.block, reader.record)
 }
 
 // The reader's next record, which it passes; after the last, that there is none, and it stays.

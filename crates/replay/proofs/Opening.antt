@@ -1,14 +1,14 @@
 -- Laws of a request by value. In order: a task that joins a run; the request's refusals; what it leaves. Assumes nothing.
-use Prim.Native.Nat.{ℕ, _+_, _-_, _≤_, _<_}
+use Prim.Native.Nat.{ℕ, _+_, _-_, _<_}
 use native.Mathlib.Omega.{arith}
 use native.Mathlib.Numerals.{add-one}
-use mathlib.Core.Path.{_≡_, sym, ap, _∙_, subst}
-use mathlib.Core.List.{List, [], _∷_, _++_}
+use mathlib.Core.Path.{_≡_, sym, ap, _∙_}
+use mathlib.Core.List.{List, [], _∷_}
 use lib.ListN.{length, set, take, length-set, length-append}
 use lib.Seq.{length-take-le, take-suc-set}
 use Rattle.lists.specs.Lists.{at}
 use Rattle.rule.specs.State.{State}
-use Rattle.rule.specs.Calls.{moved, opened, Call, request, refusal, effect}
+use Rattle.rule.specs.Calls.{moved, opened, request, refusal, effect}
 use Rattle.rule.specs.View.{view, Tidy, Shows}
 use Rattle.rule.specs.declared.Run.{Run}
 use Rattle.laws.specs.Sound.{Sound}
@@ -17,8 +17,7 @@ use Rattle.laws.proofs.Made.{queue-short, request-sound}
 use Rattle.line.proofs.Rings.{clear-set}
 use Rattle.engine.specs.Promises.{earlyRefusal}
 use Rattle.engine.proofs.Requests.{refusal-now, refusal-open, refusal-none}
-use Rattle.replay.specs.Answers.{Called}
-use Rattle.replay.proofs.Calling.{shows-then, request-called}
+use Rattle.replay.proofs.Calling.{shows-then}
 
 -- ---- a task joins
 
@@ -69,10 +68,6 @@ module _ (s : State) (t k a : ℕ) where
       → earlyRefusal (s .setup .count) (s .clock) t k a ≡ refusal s (request t k a)
   unfolding refusal
   early-number h = sym (refusal-now s t k a h)
-
-  pub early-called : (earlyRefusal (s .setup .count) (s .clock) t k a ≡ 0 → ⊥)
-      → Called (earlyRefusal (s .setup .count) (s .clock) t k a)
-  early-called h = subst Called (refusal-now s t k a h) (request-called s t k a)
 
 -- the run r after the move of the clock
 module _ (s : State) (t k a : ℕ) (e : earlyRefusal (s .setup .count) (s .clock) t k a ≡ 0) (r : Run)

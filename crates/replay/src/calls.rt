@@ -5,7 +5,7 @@ ghost use Prim.Native.Nat.{_≤_, _<_};
 ghost use Rattle.rule.specs.Calls.{moved, opened, request, advance, drain};
 ghost use Rattle.rule.specs.View.{view, Tidy, MadeRun, Shows, Promised};
 ghost use Rattle.laws.specs.Sound.{Sound};
-ghost use Rattle.replay.specs.Answers.{callNumber, Called};
+ghost use Rattle.replay.specs.Answers.{callNumber};
 
 pub enum CallAnswer {
     Accepted,
@@ -21,14 +21,11 @@ pub struct Moved {
     pub run: Run,
 }
 
-// The answer with a number.
+// The answer with a number from 10 to 13.
 fn answer_of(refusal: u32) -> CallAnswer
-    requires { ⌜ Called refusal ⌝ }
+    requires { ⌜ (10 ≤ refusal) × (refusal ≤ 13) ⌝ }
     ensures { λ r. ⌜ callNumber r ≡ refusal ⌝ }
 {
-    if refusal == 0 {
-        return CallAnswer::Accepted;
-    }
     if refusal == 10 {
         return CallAnswer::TimePastLimit;
     }
@@ -38,10 +35,7 @@ fn answer_of(refusal: u32) -> CallAnswer
     if refusal == 12 {
         return CallAnswer::NoSuchTask;
     }
-    if refusal == 13 {
-        return CallAnswer::WrongAmount;
-    }
-    CallAnswer::StillOpen
+    CallAnswer::WrongAmount
 }
 
 // The clock moves to a time that is not before it.
@@ -98,10 +92,8 @@ pub fn request(run: Run, time: u32, task: u32, amount: u32) -> Moved
         return Moved { answer, run };
     }
     let after = opened_by(ready, task as u8, amount);
-    Moved {
-        answer: CallAnswer::Accepted,
-        run: after,
-    }
+    let answer = CallAnswer::Accepted;
+    Moved { answer, run: after }
 }
 
 // Moves the clock to the time.

@@ -1,4 +1,3 @@
 pub mod Filling
 pub mod Reporting
 pub mod Logs
-pub mod Computed

@@ -18,8 +18,9 @@ use Rattle.laws.proofs.Tables.{calls-outcome, completions-length, rows-length, 
 use Rattle.table.specs.Answers.{Answers, answerOf}
 use Rattle.table.specs.declared.TableAnswer.{TableAnswer}
 use Rattle.table.specs.declared.TableAnswer.the-variants.{Finished, Refused}
-use Rattle.text.specs.Text.{tableText, refusedLine}
+use Rattle.text.specs.Text.{tableText, columnsText, refusedLine}
 use Rattle.text.specs.Writes.{Columns}
+use Rattle.text.proofs.Columns.{columnsText-fit}
 use Rattle.report.specs.Report.{tablePrinted}
 
 module _ (p : Setup) (ts ks ms : List ℕ) (z : setupRefusal p ≡ 0)
@@ -122,7 +123,7 @@ module _ (p : Setup) (ts ks ms : List ℕ) (z : setupRefusal p ≡ 0)
       pub after-part : length ts ≡ length (take (length ts) after)
       after-part = sym (length-take-le (length ts) after after-room)
 
-      pub after-columns : Columns ks ts ms (take (length ts) after)
+      after-columns : Columns ks ts ms (take (length ts) after)
       after-columns =
           let q = tabled in
           record {
@@ -132,9 +133,10 @@ module _ (p : Setup) (ts ks ms : List ℕ) (z : setupRefusal p ≡ 0)
             done-too = sym after-part ∙ sym (q .tasks-equal);
           }
 
-      pub text-finished : tableText ks ts ms (take (length ts) after) end ≡ tablePrinted ts ks ms o
+      pub text-finished : columnsText ks ts ms (take (length ts) after) end ≡ tablePrinted ts ks ms o
       unfolding tablePrinted
       text-finished =
           let front : take (length ts) after ≡ ends .dones =
           ap (take (length ts)) (ends .column) ∙ take-at (ends .dones) (drop (length (ends .dones)) before) (length ts) as-many in
-          ap (λ (l : List ℕ). tableText ks ts ms l end) front ∙ ap (tablePrinted ts ks ms) (sym (ends .outcome))
+          columnsText-fit _ _ _ _ _ after-columns ∙ ap (λ (l : List ℕ). tableText ks ts ms l end) front
+          ∙ ap (tablePrinted ts ks ms) (sym (ends .outcome))

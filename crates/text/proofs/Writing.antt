@@ -10,8 +10,8 @@ use borrow.Author.Tests.{lt-ltb, le-ltb}
 use lib.ListN.{length, take, drop, set, length-append, length-set, length-take, take-append-drop}
 use lib.Seq.{take-all, take-suc, take-suc-set, drop-set-lt, drop-drop}
 use Rattle.lists.specs.Lists.{at}
-use Rattle.text.specs.Text.{bytes, digits, decimal, header, rowLine, rowLines, endLine, tableText, refusedLine}
-use Rattle.text.specs.Writes.{Wrote, WroteUpTo}
+use Rattle.text.specs.Text.{bytes, digits, decimal, pair, header, rowLine, rowLines, endLine, tableText, refusedLine}
+use Rattle.text.specs.Writes.{Wrote, WroteUpTo, Digits}
 
 -- ---- one text after another
 
@@ -77,19 +77,47 @@ wrote-after {a} {b} {p} {r} {s} w =
 
 -- ---- digits and rows
 
-pub digits-none : (k n : ℕ) → k ≡ 0 → digits k n ≡ []
-unfolding digits
-digits-none k n e = rw e
-
 pub digits-one : (k n : ℕ) → 0 < k → n < 10 → digits k n ≡ (48 + n) ∷ []
 unfolding digits
 digits-one zero n h l = absurd (not-suc-le-zero h)
 digits-one (suc k) n h l = simp (lt-ltb _ _ l)
 
-pub digits-more : (k n : ℕ) → 0 < k → 10 ≤ n → digits k n ≡ digits (k - 1) (n / 10) ++ ((48 + n % 10) ∷ [])
+-- the last digit stands behind the others
+digits-more : (k n : ℕ) → 10 ≤ n → digits (suc k) n ≡ digits k (n / 10) ++ ((48 + n % 10) ∷ [])
 unfolding digits
-digits-more zero n h l = absurd (not-suc-le-zero h)
-digits-more (suc k) n h l = let e : suc k - 1 ≡ k = omega arith in rw e (simp (le-ltb _ _ l))
+digits-more k n l = simp (le-ltb _ _ l)
+
+pub digits-two : (k n : ℕ) → Digits k n → 10 ≤ n → 2 ≤ k
+digits-two zero n d h = absurd (not-suc-le-zero (d .some))
+digits-two (suc zero) n d h = absurd (not-suc-le-zero {n = 0} (omega (arith, d .few)))
+digits-two (suc (suc k)) n d h = omega arith
+
+pub digits-pair : (k n : ℕ) → Digits k n → 10 ≤ n → n < 100 → digits k n ≡ pair n
+digits-pair zero n d h l = absurd (not-suc-le-zero (d .some))
+digits-pair (suc zero) n d h l = absurd (not-suc-le-zero {n = 0} (omega (arith, d .few)))
+digits-pair (suc (suc k)) n d h l =
+    let one : digits (suc k) (n / 10) ≡ (48 + n / 10) ∷ [] = digits-one (suc k) (n / 10) (omega arith) (omega arith) in
+    digits-more (suc k) n h ∙ rw one
+
+-- the last two digits stand behind the others, of which there are two fewer
+pub digits-pairs : (k n : ℕ) → Digits k n → 100 ≤ n → digits k n ≡ digits (k - 2) (n / 100) ++ pair (n % 100)
+digits-pairs zero n d h = absurd (not-suc-le-zero (d .some))
+digits-pairs (suc zero) n d h = absurd (not-suc-le-zero {n = 0} (omega (arith, d .few)))
+digits-pairs (suc (suc k)) n d h =
+    let e : suc (suc k) - 2 ≡ k = omega arith in
+    let hundred : n / 10 / 10 ≡ n / 100 = omega arith in
+    let tens : n / 10 % 10 ≡ n % 100 / 10 = omega arith in
+    let ones : n % 10 ≡ n % 100 % 10 = omega arith in
+    digits-more (suc k) n (omega arith)
+    ∙ rw (digits-more k (n / 10) (omega arith), hundred, tens, ones, e) (append-assoc (digits k (n / 100)) ((48 + n % 100 / 10) ∷ []) ((48 + n % 100 % 10) ∷ []))
+
+pub digits-fewer : (k n : ℕ) → Digits k n → 100 ≤ n → Digits (k - 2) (n / 100)
+digits-fewer zero n d h = absurd (not-suc-le-zero (d .some))
+digits-fewer (suc zero) n d h = absurd (not-suc-le-zero {n = 0} (omega (arith, d .few)))
+digits-fewer (suc (suc zero)) n d h = absurd (not-suc-le-zero {n = 0} (omega (arith, d .few)))
+digits-fewer (suc (suc (suc k))) n d h =
+    let e : suc (suc (suc k)) - 2 ≡ suc k = omega arith in
+    rw e (record { some = omega arith; few = omega (arith, d .few) })
 
 pub rowLines-none : (t a m d : List ℕ) → rowLines t a m d 0 ≡ []
 unfolding rowLines

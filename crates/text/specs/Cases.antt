@@ -1,8 +1,10 @@
--- Texts written out: document 01's case A in full, a refusal, a table without rows, and numbers at the edges of a digit.
--- proofs/Computed.antt computes them all. Assumes nothing.
+-- Texts written out: document 01's case A in full, a table without rows, columns that do not fit, refusals, and numbers at the
+-- edges of a digit. proofs/Computed.antt computes them all. Assumes nothing.
 use Prim.Native.Nat.{ℕ}
+use Prim.Native.String.{String}
+use mathlib.Core.Bool.{cond}
 use mathlib.Core.List.{List, [], _∷_}
-use Rattle.text.specs.Text.{bytes, decimal, tableText, refusedLine}
+use Rattle.text.specs.Text.{bytes, decimal, columnsFit, columnsText, refusedLine}
 
 pub record Case : Type 0 where
   pub found : List ℕ
@@ -11,11 +13,18 @@ pub record Case : Type 0 where
 abbrev prints : List ℕ → List ℕ → Case
 prints found said = record { found = found; said = said }
 
+-- columns of these lengths are put, or not
+abbrev fit : ℕ → ℕ → ℕ → ℕ → String → Case
+fit tasks asked amounts done answer =
+    prints (cond (columnsFit tasks asked amounts done) (bytes "yes") (bytes "no")) (bytes answer)
+
 abbrev pub cases : List Case
 cases =
-    prints (tableText (0 ∷ 1 ∷ []) (0 ∷ 2 ∷ []) (5 ∷ 2 ∷ []) (7 ∷ 5 ∷ []) 7)
+    prints (columnsText (0 ∷ 1 ∷ []) (0 ∷ 2 ∷ []) (5 ∷ 2 ∷ []) (7 ∷ 5 ∷ []) 7)
     (bytes "row task asked amount done\n1 0 0 5 7\n2 1 2 2 5\nend 7\n")
-    ∷ prints (tableText [] [] [] [] 0) (bytes "row task asked amount done\nend 0\n")
+    ∷ prints (columnsText [] [] [] [] 0) (bytes "row task asked amount done\nend 0\n")
+    ∷ prints (columnsText (0 ∷ []) [] (5 ∷ []) (5 ∷ []) 5) [] ∷ prints (columnsText [] (0 ∷ []) [] [] 5) []
+    ∷ fit 1 1 2 1 "no" ∷ fit 1 1 1 0 "no" ∷ fit 1_024 1_024 1_024 1_024 "yes" ∷ fit 1_025 1_025 1_025 1_025 "no"
     ∷ prints (refusedLine 14 2) (bytes "refused 14 at 2\n")
     ∷ prints (refusedLine 30 0) (bytes "refused 30 at 0\n")
     ∷ prints (decimal 0) (bytes "0") ∷ prints (decimal 9) (bytes "9") ∷ prints (decimal 10) (bytes "10")

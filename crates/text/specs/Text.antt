@@ -2,10 +2,10 @@
 use Prim.Native.Nat.{ℕ, zero, suc, _+_, _/_, _%_}
 use Prim.Native.Char.{code}
 use Prim.Native.String.{String, [] as none, _∷_ as _then_}
-use mathlib.Core.Bool.{cond}
+use mathlib.Core.Bool.{Bool, cond, _&&_}
 use mathlib.Core.List.{List, [], _∷_, _++_}
 use lib.ListN.{length}
-use lib.Dec.{ltb}
+use lib.Dec.{eqb, leb, ltb}
 use Rattle.lists.specs.Lists.{at}
 
 -- ---- words and lines
@@ -19,6 +19,10 @@ bytes (c then s) = code c ∷ bytes s
 unfoldable pub digits : ℕ → ℕ → List ℕ
 digits zero n = []
 digits (suc k) n = cond (ltb n 10) ((48 + n) ∷ []) (digits k (n / 10) ++ ((48 + n % 10) ∷ []))
+
+-- the two digits of a number below 100
+abbrev pub pair : ℕ → List ℕ
+pair n = (48 + n / 10) ∷ (48 + n % 10) ∷ []
 
 -- a 32-bit number in decimal
 abbrev pub decimal : ℕ → List ℕ
@@ -50,6 +54,16 @@ rowLines tasks asked amounts done (suc n) =
 
 unfoldable pub tableText : List ℕ → List ℕ → List ℕ → List ℕ → ℕ → List ℕ
 tableText tasks asked amounts done end = header ++ rowLines tasks asked amounts done (length tasks) ++ endLine end
+
+-- "equally long, at most 1,024 rows", by the columns' lengths
+unfoldable pub columnsFit : ℕ → ℕ → ℕ → ℕ → Bool
+columnsFit tasks asked amounts done = eqb asked tasks && eqb amounts tasks && eqb done tasks && leb tasks 1_024
+
+-- what is put of any columns: no text of those that do not fit
+unfoldable pub columnsText : List ℕ → List ℕ → List ℕ → List ℕ → ℕ → List ℕ
+columnsText tasks asked amounts done end =
+    cond (columnsFit (length tasks) (length asked) (length amounts) (length done))
+    (tableText tasks asked amounts done end) []
 
 -- ---- "the one line `refused N at P`"
 

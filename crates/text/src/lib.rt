@@ -3,8 +3,8 @@ ghost use mathlib.Core.Path.{_≡_};
 ghost use Prim.Native.Nat.{_+_, _*_, _≤_, _<_};
 ghost use mathlib.Core.List.{[], _∷_, _++_};
 ghost use lib.ListN.{length};
-ghost use Rattle.text.specs.Text.{digits, decimal, rowLine, rowLines, endLine, tableText, refusedLine};
-ghost use Rattle.text.specs.Writes.{Wrote, WroteUpTo, Columns};
+ghost use Rattle.text.specs.Text.{digits, pair, decimal, rowLine, rowLines, endLine, tableText, columnsFit, columnsText, refusedLine};
+ghost use Rattle.text.specs.Writes.{Wrote, WroteUpTo, Digits, Columns};
 
 fn put_byte(out: &mut [u8], at: usize, b: u8) -> usize
     requires { ⌜ at < length (now out) ⌝ }
@@ -14,19 +14,30 @@ fn put_byte(out: &mut [u8], at: usize, b: u8) -> usize
     at + 1
 }
 
-// The decimal digits of n, at most `left` of them.
+// The two decimal digits of a number below 100.
+fn put_pair(out: &mut [u8], at: usize, n: u32) -> usize
+    requires { ⌜ at + 2 ≤ length (now out) ⌝ }
+    requires { ⌜ n < 100 ⌝ }
+    ensures { λ r. ⌜ Wrote (now (out .entry)) (now (out .exit)) at (pair n) r ⌝ }
+{
+    let p = put_byte(out, at, 48 + (n / 10) as u8);
+    put_byte(out, p, 48 + (n % 10) as u8)
+}
+
+// The decimal digits of n, of which there are at most `left`. By two at a time a number takes half the divisions.
 fn put_decimal(out: &mut [u8], at: usize, n: u32, left: usize) -> usize
     requires { ⌜ at + left ≤ length (now out) ⌝ }
+    requires { ⌜ Digits left n ⌝ }
     ensures { λ r. ⌜ WroteUpTo left (now (out .entry)) (now (out .exit)) at (digits left n) r ⌝ }
 {
-    if left == 0 {
-        return at;
-    }
     if n < 10 {
         return put_byte(out, at, 48 + n as u8);
     }
-    let p = put_decimal(out, at, n / 10, left - 1);
-    put_byte(out, p, 48 + (n % 10) as u8)
+    if n < 100 {
+        return put_pair(out, at, n);
+    }
+    let p = put_decimal(out, at, n / 100, left - 2);
+    put_pair(out, p, n % 100)
 }
 
 // The bytes of s.
@@ -104,8 +115,24 @@ fn put_end(out: &mut [u8], at: usize, end: u32) -> usize
     put_cell(out, a, end, b'\n')
 }
 
-// All that is printed of a table, at the start of a buffer that has room for it.
-pub fn put_table(
+// Whether columns of these lengths are put: equally long, and few enough for the buffer.
+fn columns_fit(tasks: usize, asked: usize, amounts: usize, done: usize) -> bool
+    ensures { λ r. ⌜ r ≡ columnsFit tasks asked amounts done ⌝ }
+{
+    if asked != tasks {
+        return false;
+    }
+    if amounts != tasks {
+        return false;
+    }
+    if done != tasks {
+        return false;
+    }
+    tasks <= 1024
+}
+
+// The header, the lines of all rows and that of the end, at the start of the buffer.
+fn put_lines(
     tasks: &[u32],
     asked: &[u32],
     amounts: &[u32],
@@ -119,6 +146,24 @@ pub fn put_table(
     let a = put_all(out, 0, b"row task asked amount done\n");
     let b = put_rows(out, a, tasks, asked, amounts, done);
     put_end(out, b, end)
+}
+
+// All that is printed of a table, at the start of the buffer. Columns of unequal length, or of more than 1,024 rows, are put
+// as no text. Any columns are taken.
+pub fn put_table(
+    tasks: &[u32],
+    asked: &[u32],
+    amounts: &[u32],
+    done: &[u32],
+    end: u32,
+    out: &mut [u8; 65536],
+) -> usize
+    ensures { λ r. ⌜ WroteUpTo 65_536 (now (out .entry)) (now (out .exit)) 0 (columnsText (now (tasks .entry)) (now (asked .entry)) (now (amounts .entry)) (now (done .entry)) end) r ⌝ }
+{
+    if !columns_fit(tasks.len(), asked.len(), amounts.len(), done.len()) {
+        return 0;
+    }
+    put_lines(tasks, asked, amounts, done, end, out)
 }
 
 // The one line of a refusal, at the start of the buffer.

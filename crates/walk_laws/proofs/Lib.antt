@@ -1,8 +1,10 @@
 pub mod Data
+pub mod Contracts
+pub mod Answered
 pub mod Parameters
 mod Passing
 pub mod Calling
-mod Lying
+pub mod Lying
 pub mod InPlace
 pub mod Peek
 pub mod Through

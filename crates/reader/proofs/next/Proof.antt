@@ -51,10 +51,10 @@ use Rattle.walk_laws.proofs.Data.{typed-at}
 use Rattle.log.proofs.Found as S
 use Rattle.log.proofs.Found.Laws as S′
 use Rattle.reader.proofs.Take as calls
-use Rattle.reader.proofs.Take.{B, rowD, found-is, block-fits, record-fits, TakeAt}
+use Rattle.reader.proofs.Take.{B, Core, core-ended, core-clauses, rowD, Takes, found-is, block-fits}
+use Rattle.reader.proofs.Take.{record-fits}
 use Rattle.reader.proofs.Taken as D
 use Rattle.reader.proofs.Taken.Laws as D′
-use Rattle.reader.proofs.take_at as take
 use Rattle.reader.proofs.take_at.Symbol as take-def
 use Rattle.reader.proofs.take_at.Met as take-thm
 use Rattle.reader.proofs.next as self
@@ -106,8 +106,8 @@ module _ {M : Type 1} (𝓤 : URA M) (H : Heap 𝓤) (A : Atoms 𝓤) (W : Given
         tt,
       )
 
-  abbrev to : TakeAt 𝓤 H A at-mem run .Ghost
-  to = calls.to 𝓤 H A W at-mem run κ′ q′ (d .log) (d .block) (d .«record»)
+  abbrev to : Core rowD Takes 𝓤 H A .Ghost
+  to = calls.to rowD Takes 𝓤 H A W κ′ q′ d
 
   exits : (t : Taken) → t ≡ taken → Is S.the-row (t .found) (EL.vals S.the-type S′.the-laws (t .found))
       → ent 𝓤 (⋆ 𝓤 H A (‵ (fobs γ (R .coded .code (after t))) ∷ ‵ (fbor κ (Body (mem R) b o γ)) ∷ ‵ (flft κ q) ∷ (‵
@@ -117,7 +117,7 @@ module _ {M : Type 1} (𝓤 : URA M) (H : Heap 𝓤) (A : Atoms 𝓤) (W : Given
       (flft κ′ q′) ⊛ ‵ ftrue) ∷ []) ∵
       suffices ! _ (ends-at 𝓤 H A self.ended stayed (self.clauses 𝓤 H A at-mem run) W
       (((κ, (κ′, tt)), (q, (q′, tt)), bounds, x, at), tt) _ (t .found) (after t, tt) (tt, tt)) $
-      says ! (ap (λ (y : Taken). y .found) e, ap after e) $
+      says ! (record { found = ap (λ (y : Taken). y .found) e; after = ap after e }) $
       move ! (2 ∷ 3 ∷ []) $ join ! $ frame ! $ feqI ! (List Val) (vptr b o ∷ []) (vptr b o ∷ []) refl $ fjoin3 ! $
       nothing ! $ move ! (1 ∷ 0 ∷ []) $ fjoin ! $
       owned ! S.the-row (Is S.the-row) (EL.makes S.the-type S′.the-plain 𝓤 H A) (t .found) _ is $
@@ -127,7 +127,7 @@ module _ {M : Type 1} (𝓤 : URA M) (H : Heap 𝓤) (A : Atoms 𝓤) (W : Given
   wt was = LL.lawful (T.the-type α) (T′.the-laws α) 𝓤 H A W .typed d _ was .0
 
   module _ (C : Calls 𝓤 H) (Λ : Loops 𝓤 H) (fm : FmC 𝓤 H (W .laws) C) (known : Triple 𝓤 (C take-def.name)
-      (TakeAt 𝓤 H A at-mem run)) where
+      (Core rowD Takes 𝓤 H A)) where
     walk : Standing d → ent 𝓤 (onEntry 𝓤 H A self.signature (κ, (κ′, tt)) (q, (q′, tt)) x at)
         (WpFn 𝓤 H C Λ code.function (vptr b o ∷ []) Post)
     walk stands =
@@ -150,19 +150,20 @@ module _ {M : Type 1} (𝓤 : URA M) (H : Heap 𝓤) (A : Atoms 𝓤) (W : Given
         (whole !))))) (from ! (stop !)) (init ! 8 refl (tt, wt was .1 .1 .0)) $
         assigns ! (of-opd ! (load ! (from ! (hop ! (look ! 14 refl) (fld ! refl (stop !)))) (look-in ! 1 (sub ! 2 refl
         (whole !))))) (from ! (stop !)) (init ! 6 refl (tt, wt was .1 .1 .1 .0)) $
-        move ! (0 ∷ 5 ∷ []) $ use2 W (raw (TakeAt 𝓤 H A at-mem run .pre to) ⊛ ‵ (R .own d (mach ∷ [])))
-        (calls.apart 𝓤 H A W at-mem run κ′ q′ (named 1) d stands (wt was .1 .1 .0 .fits) (wt was .1 .1 .1 .0 .fits)) $
+        move ! (0 ∷ 5 ∷ []) $ use2 W (raw (Core rowD Takes 𝓤 H A .pre to) ⊛ ‵ (R .own d (mach ∷ [])))
+        (calls.apart rowD Takes 𝓤 H A W κ′ q′ d (named 1) stands (wt was .1 .1 .0 .fits) (wt was .1 .1 .1 .0 .fits)) $
         split ! $
         -- [what `take_at` asks; what the struct owns; its cell; the open borrow; obs; auth; _5; …; _4; …; _3; …; _2;
         -- …; _1; …; room for _0; …]
-        calls-at ! fm (TakeAt 𝓤 H A at-mem run) known to (and-then ! (load ! (from ! (stop !)) (look ! 10 refl))
+        calls-at ! fm (Core rowD Takes 𝓤 H A) known to (and-then ! (load ! (from ! (stop !)) (look ! 10 refl))
         (and-then ! (load ! (from ! (stop !)) (look ! 8 refl)) (and-then ! (load ! (from ! (stop !)) (look ! 6 refl))
         (no-more !)))) (λ u.
         use1 W (later (some (λ (t : Taken). ((‵ (flft κ′ q′) ⊛ ‵ ftrue) ⊛ ‵ (D.the-row .own t (u ∷ []))) ⊛ raw
-        (ensured 𝓤 H A take.ended (take.clauses 𝓤 H A at-mem run) (κ′, tt) (d .log, (d .block, (d .«record», tt))) tt
+        (ensured 𝓤 H A (core-ended rowD Takes) (core-clauses rowD Takes 𝓤) (κ′, tt)
+        (d .log, (d .block, (d .«record», tt))) tt
         t)))) (id⊢ 𝓤 _) $ await ! tt $ pick ! (λ t.
-        split ! $ move ! (1 ∷ []) $ use1 W (raw (fact 𝓤 (t ≡ taken))) (calls.said 𝓤 H A W at-mem run κ′ q′ (d .log)
-        (d .block) (d .«record») t) $ heard ! (t ≡ taken) (λ e. split ! $ move ! (1 ∷ []) $
+        split ! $ move ! (1 ∷ []) $ use1 W (raw (fact 𝓤 (t ≡ taken))) (calls.said rowD Takes 𝓤 H A W κ′ q′ d t) $
+        heard ! (t ≡ taken) (λ e. split ! $ move ! (1 ∷ []) $
         peeks ! D.the-row (Is D.the-row) (shows 𝓤 H A D.the-row) t (u ∷ []) (λ is. drop ! $
         -- [the token of 'a; what the struct owns; its cell; the open borrow; obs; auth; the locals, the last first]
         land ! (from ! (stop !)) (init ! 12 refl (typed-at rowD 𝓤 H A W t u is)) $
@@ -177,8 +178,8 @@ module _ {M : Type 1} (𝓤 : URA M) (H : Heap 𝓤) (A : Atoms 𝓤) (W : Given
         (from ! (stop !)) (init ! 16 refl (EL.lawful S.the-type S′.the-laws 𝓤 H A W tt .typed (t .found) _
         (found-is t _ is) .0)) $
         -- the struct is put together again, at the new numbers, and the borrow is closed
-        move ! (1 ∷ []) $ use1 W (‵ (R .own (after t) (T′.lowered (after t) ∷ []))) (calls.put-both 𝓤 H A W at-mem run
-        κ′ q′ (named 1) d (t .block) (t .«record») (block-fits t _ is) (record-fits t _ is)) $
+        move ! (1 ∷ []) $ use1 W (‵ (R .own (after t) (T′.lowered (after t) ∷ [])))
+        (calls.put-both 𝓤 H A W α d (t .block) (t .«record») (block-fits t _ is) (record-fits t _ is)) $
         move ! (2 ∷ []) $ use1 W (‵ (cellAt fullShare (R .mir) (T′.lowered (after t) ∷ []) b o))
         (W .laws .at-raw fullShare (T′.mir erased) b o (T′.lowered (after t))) $
         move ! (0 ∷ 1 ∷ 3 ∷ 4 ∷ 5 ∷ []) $ closes ! tt R (after t) (T′.lowered (after t) ∷ []) b o $
@@ -190,7 +191,7 @@ module _ {M : Type 1} (𝓤 : URA M) (H : Heap 𝓤) (A : Atoms 𝓤) (W : Given
 
 module _ {M : Type 1} (𝓤 : URA M) (H : Heap 𝓤) (A : Atoms 𝓤) (W : Given 𝓤 H A) (mem : Memory → SProp 𝓤) (run : Routine
     → Fun 𝓤) where
-  walks : (C : Calls 𝓤 H) (Λ : Loops 𝓤 H) → FmC 𝓤 H (W .laws) C → Triple 𝓤 (C take-def.name) (TakeAt 𝓤 H A mem run)
+  walks : (C : Calls 𝓤 H) (Λ : Loops 𝓤 H) → FmC 𝓤 H (W .laws) C → Triple 𝓤 (C take-def.name) (Core rowD Takes 𝓤 H A)
       → Walks 𝓤 H A self.ended stayed (WpFn 𝓤 H C Λ code.function) (self.clauses 𝓤 H A mem run)
   walks C Λ fm known =
       walked 𝓤 H A self.ended stayed (self.clauses 𝓤 H A mem run) (WpFn 𝓤 H C Λ code.function) (λ κs. (ptr-vals, tt))
@@ -198,7 +199,7 @@ module _ {M : Type 1} (𝓤 : URA M) (H : Heap 𝓤) (A : Atoms 𝓤) (W : Given
       (λ κs qs bounds a g are. needs 𝓤 _ _ (walk 𝓤 H A W mem run (κs .0) (κs .1 .0) (qs .0) (qs .1 .0) bounds
       (a .0 .ptr .0) (a .0 .ptr .1) (a .0 .name) (a .0 .now) C Λ fm known))
 
-  meets : (𝓣 : Tables 𝓤 H) → Triple 𝓤 (𝓣 .C take-def.name) (TakeAt 𝓤 H A mem run) → Meets 𝓤 H A self.signature
+  meets : (𝓣 : Tables 𝓤 H) → Triple 𝓤 (𝓣 .C take-def.name) (Core rowD Takes 𝓤 H A) → Meets 𝓤 H A self.signature
       (WpFn 𝓤 H (𝓣 .C) (𝓣 .Λ) code.function) (self.spec 𝓤 H A mem run)
   meets 𝓣 known =
       walk-meets 𝓤 H A self.ended stayed W (goes-ref 𝓤 H A W 2 0 tt behind, tt) (self.clauses 𝓤 H A mem run)
@@ -211,5 +212,5 @@ next-spec 𝓤 H 𝓜 𝓖 𝓡 =
     entered 𝓤 H (tripleOf 𝓤 H (𝓖 .A) self.signature (self.spec 𝓤 H (𝓖 .A) (𝓜 .mem) (𝓡 .run)))
     (tables 𝓤 H 𝓜 𝓡 code.env .C) (tables 𝓤 H 𝓜 𝓡 code.env .Λ) key.name code.function (code.unfolded 𝓤 H 𝓜 𝓡)
     (meets 𝓤 H (𝓖 .A) (givenOf 𝓤 H 𝓜 𝓖) (𝓜 .mem) (𝓡 .run) (tablesOf 𝓤 H 𝓜 (tables 𝓤 H 𝓜 𝓡 code.env))
-    (cited 𝓤 H (TakeAt 𝓤 H (𝓖 .A) (𝓜 .mem) (𝓡 .run)) 𝓜 𝓡 code.env take-def.name take-def.routine
+    (cited 𝓤 H (Core rowD Takes 𝓤 H (𝓖 .A)) 𝓜 𝓡 code.env take-def.name take-def.routine
     code.calls-reader·take-at (take-thm.met 𝓤 H 𝓜 𝓖 𝓡)))

@@ -2,7 +2,7 @@
 use mathlib.Core.Path.{_≡_, refl}
 use borrow.Author.Needs.{needs}
 use Rattle.text.proofs.Writing.{wrote-same-upto}
-use Rattle.report.proofs.Reporting.{text-refused, after-room, after-part, after-columns, text-finished}
+use Rattle.report.proofs.Reporting.{text-refused, after-room, after-part, text-finished}
 use Rattle.report.proofs.put_rows.Statement.{statement}
 use Rattle.report.proofs.put_rows.Tie as tie
 
@@ -21,12 +21,6 @@ slice-aggregate-put-table c =
     let ran = c .before .before .before .before .before in
     let s = start ran in
     after-part (s .args .setup) _ _ _ (s .pre .0) (s .pre .1) _ _ refl _ (ran .table .ensures) _ (c .before .before .answer .given .1)
-
-put-table-requires : tie.Need-put-table-requires
-put-table-requires c κs =
-    let ran = c .before .before .before .before .before .before in
-    let s = start ran in
-    after-columns (s .args .setup) _ _ _ (s .pre .0) (s .pre .1) _ _ refl _ (ran .table .ensures) _ (c .before .before .before .answer .given .1)
 
 returns : tie.Need-returns
 returns c =
@@ -54,7 +48,7 @@ put-rows-spec =
     (λ c. search needs)
     array-share-prefix-done
     slice-aggregate-put-table
-    put-table-requires
+    (λ c κs. search needs)
     (λ c. search needs)
     (λ c κs. search needs)
     returns

@@ -1,8 +1,6 @@
 -- A row of ticks that finishes its task, or one that does not: each is a law of Legs.
 use native.Mathlib.Omega.{arith}
 use mathlib.Core.Path.{sym, _∙_}
-use Rattle.laws.specs.Sound.{Sound}
-use Rattle.steps.specs.Parts.{parts, Kept}
 use Rattle.steps.proofs.Legs.{ready, kept-tasks, leg-known, leg-owes, leg-time, leg-gives, leg-kept, leg-some}
 use Rattle.steps.proofs.Legs.{finished-stepped, served-stepped}
 use Rattle.steps.proofs.give_leg.Statement.{statement}

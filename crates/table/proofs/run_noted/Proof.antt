@@ -1,6 +1,5 @@
 -- `table::run_noted` meets its contract: the rows are run, and then refused or written. Assumes nothing.
 use native.Mathlib.Omega.{arith}
-use borrow.Author.Needs.{needs}
 use denote.Ref.{now}
 use lib.ListN.{length}
 use Rattle.laws.specs.Rows.{Tabled}

@@ -1,33 +1,31 @@
--- `text::put_table` meets its contract: the header, the rows, the end. Assumes nothing.
+-- `text::put_table` meets its contract: no text, or all lines. Assumes nothing.
 use native.Mathlib.Omega.{arith}
-use Rattle.text.proofs.Writing.{wrote-then, wrote-same, tableText-lines}
+use mathlib.Core.Path.{sym, _∙_}
+use borrow.Author.Tests.{not-true, not-false}
+use Rattle.text.proofs.Writing.{wrote-nothing, wrote-same, wrote-same-upto}
+use Rattle.text.proofs.Columns.{columns-fit, columnsText-fit, columnsText-other}
 use borrow.Author.Needs.{needs}
 use Rattle.text.proofs.put_table.Statement.{statement}
 use Rattle.text.proofs.put_table.Tie as tie
 
-slice-aggregate-put-all : tie.Need-slice-aggregate-put-all
-slice-aggregate-put-all c = search needs
-
-put-all-requires : tie.Need-put-all-requires
-put-all-requires c κs = search needs
-
-put-rows-requires : tie.Need-put-rows-requires
-put-rows-requires c κs = search needs
-
-put-end-requires : tie.Need-put-end-requires
-put-end-requires c κs = search needs
-
 returns : tie.Need-returns
 returns c =
-    let a = c .before .before .before .before .put-all .ensures in
-    let b = c .before .before .put-rows .ensures in
-    let e = c .put-end .ensures in
     record {
-      wrote = wrote-same (tableText-lines _ _ _ _ _) (wrote-then (wrote-then a (b .wrote)) (e .wrote));
-      short = omega (arith, a .place, b .short, e .short);
+      wrote =
+          wrote-same
+          (sym (columnsText-other _ _ _ _ _ (sym (c .before .columns-fit .ensures) ∙ not-true _ (c .if1 .taken))))
+          (wrote-nothing _ 0);
+      short = omega arith;
     }
 
+put-lines-requires : tie.Need-put-lines-requires
+put-lines-requires c κs =
+    columns-fit _ _ _ _ (sym (c .before .before .columns-fit .ensures) ∙ not-false _ (c .before .if1 .left))
+
+returns-2 : tie.Need-returns-2
+returns-2 c =
+    let fit = sym (c .before .before .before .columns-fit .ensures) ∙ not-false _ (c .before .before .if1 .left) in
+    wrote-same-upto (sym (columnsText-fit _ _ _ _ _ (columns-fit _ _ _ _ fit))) (c .put-lines .ensures)
+
 pub put-table-spec : {M : Type 1} → statement M
-put-table-spec =
-    tie.close
-    (tie.spec slice-aggregate-put-all put-all-requires put-rows-requires put-end-requires returns)
+put-table-spec = tie.close (tie.spec (λ c κs. search needs) returns put-lines-requires returns-2)

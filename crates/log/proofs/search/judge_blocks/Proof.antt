@@ -1,6 +1,6 @@
 -- `log::search::judge_blocks` meets its contract. Outside, what is judged from the first block on is what is judged
--- from this one on; inside, the
--- bytes from the first unused one on are as zero as those from this one on. Assumes nothing.
+-- from this one on; inside, the bytes from the first unused one on are as zero as those from this one on. Assumes
+-- nothing.
 use Prim.Native.Nat.{ℕ, _≤_, _<_, _+_, _*_, _-_}
 use native.Mathlib.Omega.{arith}
 use native.Mathlib.Nat.{sub-zero}
@@ -8,7 +8,7 @@ use borrow.Author.Needs.{needs}
 use borrow.Author.Tests.{not-true, not-false}
 use denote.Ref.{now}
 use mathlib.Core.Path.{_≡_, refl, sym, ap, _∙_}
-use mathlib.Core.Bool.{true, _||_}
+use mathlib.Core.Bool.{Bool, true, _||_}
 use mathlib.Core.List.{List}
 use lib.Dec.{eqb}
 use lib.ListN.{length, take, drop}
@@ -94,14 +94,10 @@ headed c =
 abbrev begunAt : tie.Else4 Inv-bytes μ-bytes Inv-search μ-search → Begun
 begunAt c = begunOf (c .before .before .before .before)
 
-counted : (c : tie.Else4 Inv-bytes μ-bytes Inv-search μ-search)
-    → (eqb (placeAt (begunAt c)) 0
-    || countFits
-    (blocksAt (begunAt c))
-    (placeAt (begunAt c))
-    (41 * (placeAt (begunAt c) - 1))
-    (count (partAt (begunAt c))))
-    ≡ true
+abbrev countAt : Begun → Bool
+countAt c = eqb (placeAt c) 0 || countFits (blocksAt c) (placeAt c) (41 * (placeAt c - 1)) (count (partAt c))
+
+counted : (c : tie.Else4 Inv-bytes μ-bytes Inv-search μ-search) → countAt (begunAt c) ≡ true
 counted c = sym (c .before .count-right .ensures) ∙ not-false _ (c .if4 .left)
 
 abbrev unusedOf : Begun → ℕ
@@ -176,7 +172,7 @@ returns-4 c =
     let e = begunOf (c .before .before .before .before) in
     stopped e 33
     (refusal-count (judged-before e) (headed (c .before .before))
-    (sym (c .before .count-right .ensures) ∙ not-true _ (c .if4 .taken)))
+    (_∙_ {a = countAt e} (sym {b = countAt e} (c .before .count-right .ensures)) (not-true _ (c .if4 .taken))))
     (λ x. omega arith)
 
 returns-5 : tie.Need-returns-5 Inv-bytes μ-bytes Inv-search μ-search

@@ -1,17 +1,16 @@
 -- `replay::calls::request` meets its contract: refused by 10 to 13 with the run that was given, or moved; then refused by 14 with
 -- the run that was given, or opened (Opening). Assumes nothing.
-use Prim.Native.Nat.{_≤_, _<_}
+use Prim.Native.Nat.{_<_}
 use native.Mathlib.Omega.{arith}
-use mathlib.Core.Path.{_≡_, refl, sym, ap, _∙_, subst}
+use mathlib.Core.Path.{_≡_, refl, sym, _∙_}
 use borrow.Author.Needs.{needs}
 use Rattle.rule.specs.Calls.{Call, request}
 use Rattle.rule.specs.View.{view}
 use Rattle.laws.proofs.Made.{made-sound}
 use Rattle.engine.specs.Promises.{earlyRefusal}
-use Rattle.engine.proofs.Requests.{Passed, early-passed}
-use Rattle.replay.specs.Answers.{Called}
+use Rattle.engine.proofs.Requests.{Passed, early-passed, early-between}
 use Rattle.replay.proofs.Calling.{promised-refused, promised-accepted}
-use Rattle.replay.proofs.Opening.{early-number, early-called, open-number, taken-number, taken-room, taken-shows}
+use Rattle.replay.proofs.Opening.{early-number, open-number, taken-number, taken-room, taken-shows}
 use Rattle.replay.proofs.calls.request.Statement.{statement}
 use Rattle.replay.proofs.calls.request.Tie as tie
 
@@ -38,8 +37,11 @@ early-refusal-requires c κs = search needs
 
 answer-of-requires : tie.Need-answer-of-requires
 answer-of-requires c κs =
+    let s = c .before .before in
     let e = c .before .early-refusal .ensures in
-    subst Called (sym e) (early-called (view (c .before .before .args .run)) _ _ _ (λ z. c .if1 .taken (e ∙ z)))
+    let b = early-between (view (s .args .run)) (s .args .time) (s .args .task) (s .args .amount)
+    (λ z. c .if1 .taken (e ∙ z)) in
+    (omega (arith, e, b .0), omega (arith, e, b .1))
 
 returns : tie.Need-returns
 returns c =

@@ -1,0 +1,23 @@
+-- `desk::kept::anduri_completed_of` meets its contract: by the law `reads`, from what `anduri_completed` ensures. Assumes nothing.
+use mathlib.Core.Path.{_≡_}
+use mathlib.Core.List.{[], _∷_}
+use mir.Syntax.{w32}
+use contract.Monad.{fact}
+use Rattle.rule.specs.Readings.{completedOf}
+use Rattle.desk.specs.Face.{readFace}
+use Rattle.rule.specs.View.{view, MadeRun}
+use Rattle.walk_laws.proofs.Data.{number}
+use Rattle.tracker.proofs.Lent.{reads}
+use Rattle.desk.proofs.Faces.{read}
+use Rattle.desk.proofs.anduri_completed.Symbol as by-value
+use Rattle.desk.proofs.anduri_completed.Met.{met}
+use Rattle.desk.proofs.kept.anduri_completed_of.Key.{name}
+use Rattle.desk.proofs.kept.anduri_completed_of.Statement.{statement}
+use Rattle.desk.proofs.kept.anduri_completed_of.Code as code
+
+pub anduri-completed-of-spec : {M : Type 1} → statement M
+unfolding code.routine
+anduri-completed-of-spec 𝓤 H 𝓜 𝓖 𝓡 =
+    reads (number w32 ∷ []) read (λ h a r. r ≡ readFace (completedOf (view h) (a .0)))
+    𝓤 H 𝓜 𝓖 𝓡 (λ h a. fact 𝓤 (MadeRun h)) code.env name by-value.name
+    (code.unfolded 𝓤 H 𝓜 𝓡) by-value.routine code.calls-desk·anduri-completed (met 𝓤 H 𝓜 𝓖 𝓡)

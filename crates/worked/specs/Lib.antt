@@ -1,0 +1,5 @@
+pub mod Made
+pub mod Limits
+pub mod Orders
+pub mod Readings
+pub mod Printed
