@@ -12,12 +12,11 @@ use Rattle.rule.specs.View.{view, Tidy, Shows}
 use Rattle.rule.specs.declared.Setup.{Setup}
 use Rattle.rule.specs.declared.Run.{Run}
 use Rattle.laws.specs.Sound.{Sound}
-use Rattle.line.specs.Places.{queueAt}
+use Rattle.line.specs.Places.{queueAt, Tasks, Heads}
 use Rattle.steps.specs.Parts.{parts, Kept}
-use Rattle.engine.specs.Inner.{straightTo}
-use Rattle.line.specs.Places.{Tasks, Heads}
-use Rattle.engine.specs.Promises.{Apart}
 use Rattle.steps.specs.declared.Cursor.{Cursor}
+use Rattle.engine.specs.Inner.{straightTo}
+use Rattle.engine.specs.Promises.{Apart}
 use Rattle.line.proofs.Queues.{queueAt-priority, queueAt-zero, straight-take}
 use Rattle.line.proofs.Heads.{heads-inside, heads-serves}
 use Rattle.engine.proofs.Joining.{straight-whole, straight-clear}

@@ -1,11 +1,10 @@
 -- A task that joins the queue. In order: the queue from place 0 on; a task that joins it. Assumes nothing.
-use Prim.Native.Nat.{ℕ, suc, _+_, _-_, _≤_, _<_, zero-le}
+use Prim.Native.Nat.{ℕ, _+_, _-_, _≤_, _<_, zero-le}
 use native.Mathlib.Omega.{arith}
 use mathlib.Core.Path.{_≡_, sym, ap, _∙_, subst}
 use mathlib.Core.Bool.{Bool, true, false, cond}
 use mathlib.Core.List.{List, _++_}
 use lib.ListN.{length, set, drop, replicate, length-set}
-use lib.Seq.{drop-set-lt, drop-drop}
 use lib.Dec.{ltb}
 use Rattle.lists.specs.Lists.{at}
 use Rattle.lists.proofs.Testing.{tested, cond-same}
@@ -14,12 +13,11 @@ use Rattle.rule.specs.Setups.{isPriority}
 use Rattle.rule.specs.Tick.{chosen}
 use Rattle.rule.specs.Calls.{opened}
 use Rattle.rule.specs.declared.Setup.{Setup}
-use Rattle.line.specs.Places.{queueAt}
+use Rattle.line.specs.Places.{queueAt, Tasks, Heads}
 use Rattle.steps.specs.Parts.{Kept}
-use Rattle.engine.specs.Inner.{straightTo}
-use Rattle.line.specs.Places.{Tasks, Heads}
-use Rattle.engine.specs.Inner.{Opens}
 use Rattle.steps.specs.declared.Cursor.{Cursor}
+use Rattle.engine.specs.Inner.{straightTo, Opens}
+use Rattle.line.proofs.Rings.{clear-set}
 use Rattle.line.proofs.Heads.{chosen-robin, heads-inside, heads-serves, serves-heads, heads-set}
 use Rattle.line.proofs.Queues.{straight-drop, straight-length, straight-priority}
 use Rattle.line.proofs.Queues.{queueAt-below, queueAt-joined}
@@ -92,11 +90,7 @@ module _ (s : Setup) (c : Cursor) (q : List ℕ) (K : Kept s c q) (q′ : List �
       whole = length-set q′ (c .queued) task ∙ straight-whole
 
       clear : drop (c .queued + 1) (set q′ (c .queued) task) ≡ replicate (32 - (c .queued + 1)) 0
-      clear =
-          let m : 32 - c .queued ≡ suc (32 - (c .queued + 1)) = omega arith in
-          drop-set-lt (c .queued + 1) q′ (c .queued) task (omega arith)
-          ∙ sym (drop-drop 1 (c .queued) q′)
-          ∙ ap (drop 1) (straight-clear ∙ ap (λ (k : ℕ). replicate k 0) m)
+      clear = clear-set (c .queued) task q′ b straight-clear
 
       joins : Joins (straightTo s c)
       joins H =

@@ -18,8 +18,8 @@ use Rattle.laws.proofs.Refusals.{request-accepted}
 use Rattle.laws.proofs.Made.{queue-short, request-sound}
 use Rattle.line.specs.Places.{queueAt}
 use Rattle.steps.specs.Parts.{parts, Kept}
-use Rattle.engine.specs.Inner.{earlyRefusal, Opens}
-use Rattle.engine.specs.Promises.{Reached, asked, Asks}
+use Rattle.engine.specs.Inner.{Opens}
+use Rattle.engine.specs.Promises.{Reached, earlyRefusal, asked, Asks}
 use Rattle.steps.specs.declared.Cursor.{Cursor}
 use Rattle.line.proofs.Queues.{queueAt-length}
 
@@ -36,12 +36,12 @@ judged false false true d e = refl
 judged false false false true e = refl
 judged false false false false e = refl
 
-below-14 : (a b c d : Bool) → four a b c d 0 < 14
-below-14 true b c d = omega arith
-below-14 false true c d = omega arith
-below-14 false false true d = omega arith
-below-14 false false false true = omega arith
-below-14 false false false false = omega arith
+four-between : (a b c d : Bool) → (four a b c d 0 ≡ 0 → ⊥) → (10 ≤ four a b c d 0) × (four a b c d 0 ≤ 13)
+four-between true b c d h = (omega arith, omega arith)
+four-between false true c d h = (omega arith, omega arith)
+four-between false false true d h = (omega arith, omega arith)
+four-between false false false true h = (omega arith, omega arith)
+four-between false false false false h = absurd (h refl)
 
 -- what a request that is not refused before the clock moves has shown
 pub record Passed (count clock t k a : ℕ) : Type 0 where
@@ -71,19 +71,19 @@ module _ (s : State) (t k a : ℕ) where
       judged (ltb lastTime t) (ltb t (s .clock)) (leb (s .setup .count) k) (not (within 1 mostAmount a))
       (isOpen (moved s t) k)
 
-  early-small : early < 14
+  pub early-between : (early ≡ 0 → ⊥) → (10 ≤ early) × (early ≤ 13)
   unfolding earlyRefusal
-  early-small =
-      below-14 (ltb lastTime t) (ltb t (s .clock)) (leb (s .setup .count) k) (not (within 1 mostAmount a))
+  early-between =
+      four-between (ltb lastTime t) (ltb t (s .clock)) (leb (s .setup .count) k) (not (within 1 mostAmount a))
 
-  refusal-now : (early ≡ 0 → ⊥) → requestRefusal s t k a ≡ early
+  pub refusal-now : (early ≡ 0 → ⊥) → requestRefusal s t k a ≡ early
   refusal-now h = refusal-early ∙ cond-false _ early (ne-eqb early 0 h)
 
-  refusal-open : early ≡ 0 → 0 < at (moved s t .owed) k → requestRefusal s t k a ≡ 14
+  pub refusal-open : early ≡ 0 → 0 < at (moved s t .owed) k → requestRefusal s t k a ≡ 14
   refusal-open e h =
       refusal-early ∙ cond-true _ early (eq-eqb early 0 e) ∙ cond-true 14 0 (lt-ltb 0 (at (moved s t .owed) k) h)
 
-  refusal-none : early ≡ 0 → at (moved s t .owed) k ≡ 0 → requestRefusal s t k a ≡ 0
+  pub refusal-none : early ≡ 0 → at (moved s t .owed) k ≡ 0 → requestRefusal s t k a ≡ 0
   refusal-none e h =
       refusal-early
       ∙ cond-true _ early (eq-eqb early 0 e)
@@ -96,7 +96,7 @@ module _ (s : State) (t k a : ℕ) where
   asked-now h =
       let r = requestRefusal s t k a in
       cond-false _ _ (ne-eqb r 0 (λ z. h (sym (refusal-now h) ∙ z)))
-      ∙ cond-false _ s (ne-eqb r 14 (λ z. omega (arith, early-small, refusal-now h)))
+      ∙ cond-false _ s (ne-eqb r 14 (λ z. omega (arith, early-between h .1, refusal-now h)))
 
   asked-open : requestRefusal s t k a ≡ 14 → asked s t k a ≡ moved s t
   unfolding asked

@@ -1,27 +1,13 @@
--- What the functions inside promise of a request besides the move of the clock. Primed names are arrays afterwards. Assumes
--- nothing.
+-- What the functions inside promise of a task that joins. Primed names are arrays afterwards. Assumes nothing.
 use Prim.Native.Nat.{ℕ}
 use mathlib.Core.Path.{_≡_}
-use mathlib.Core.Bool.{cond, not}
-use mathlib.Core.List.{List, [], _∷_}
-use lib.Dec.{ltb, leb}
-use Rattle.lists.specs.Lists.{within}
-use Rattle.rule.specs.Refusal.{refuse, first}
+use mathlib.Core.Bool.{cond}
+use mathlib.Core.List.{List}
 use Rattle.rule.specs.Setups.{isPriority}
-use Rattle.rule.specs.Calls.{lastTime, mostAmount, opened}
+use Rattle.rule.specs.Calls.{opened}
 use Rattle.rule.specs.declared.Setup.{Setup}
 use Rattle.steps.specs.Parts.{parts, Kept}
 use Rattle.steps.specs.declared.Cursor.{Cursor}
-
--- "Request: 10, 11, 12, 13, 14.": the refusals that are judged before the clock moves
-unfoldable pub earlyRefusal : ℕ → ℕ → ℕ → ℕ → ℕ → ℕ
-earlyRefusal count clock t k a =
-    first
-    (refuse 10 (ltb lastTime t)
-    ∷ refuse 11 (ltb t clock)
-    ∷ refuse 12 (leb count k)
-    ∷ refuse 13 (not (within 1 mostAmount a))
-    ∷ [])
 
 -- the queue from place 0 on, under both policies
 unfoldable pub straightTo : Setup → Cursor → Cursor

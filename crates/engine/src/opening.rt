@@ -1,4 +1,4 @@
-// What a request does besides the move of the clock: its refusals before it, and the task that joins after it.
+// What a request does after the move of the clock: the task joins.
 use rule::Setup;
 use steps::Cursor;
 ghost use mathlib.Core.Path.{_≡_};
@@ -7,29 +7,7 @@ ghost use mathlib.Core.List.{_++_};
 ghost use lib.ListN.{drop};
 ghost use Rattle.line.specs.Places.{queueAt, Tasks};
 ghost use Rattle.steps.specs.Parts.{Kept};
-ghost use Rattle.engine.specs.Inner.{earlyRefusal, straightTo, Opens};
-
-// The refusal of a request by 10 to 13, or 0.
-pub fn early_refusal(count: u32, clock: u32, time: u32, task: u32, amount: u32) -> u32
-    ensures { λ r. ⌜ r ≡ earlyRefusal count clock time task amount ⌝ }
-{
-    if 4_000_000_000 < time {
-        return 10;
-    }
-    if time < clock {
-        return 11;
-    }
-    if count <= task {
-        return 12;
-    }
-    if amount < 1 {
-        return 13;
-    }
-    if 1_000_000 < amount {
-        return 13;
-    }
-    0
-}
+ghost use Rattle.engine.specs.Inner.{straightTo, Opens};
 
 // The queue from place 0 on.
 pub fn straightened(s: Setup, c: Cursor, queue: &mut [u8; 32]) -> Cursor

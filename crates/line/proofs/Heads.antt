@@ -10,14 +10,14 @@ use mathlib.Core.List.{List, [], _∷_, _++_}
 use lib.ListN.{length, set, take, drop, drop-of-length-le}
 use lib.Seq.{length-take-le, take-suc, take-set-le, slice-cons}
 use lib.Dec.{ltb}
-use borrow.Author.Tests.{lt-ltb, le-ltb, ltb-true, ltb-false}
+use borrow.Author.Tests.{lt-ltb, le-ltb, ltb-true}
 use Rattle.lists.specs.Lists.{at}
 use Rattle.lists.proofs.Testing.{tested, cond-true, cond-false}
 use Rattle.lists.proofs.Totals.{at-set-other}
 use Rattle.rule.specs.Setups.{isPriority}
 use Rattle.rule.specs.Tick.{before, best, chosen}
 use Rattle.rule.specs.declared.Setup.{Setup}
-use Rattle.line.specs.Places.{queueAt, Tasks, key, Best, Heads}
+use Rattle.line.specs.Places.{queueAt, Best, Heads}
 use Rattle.line.proofs.Rings.{ring-head}
 use Rattle.line.proofs.Queues.{queueAt-priority, queueAt-robin}
 
@@ -37,64 +37,45 @@ chosen-robin s h n q e b l = ap (chosen s) (queueAt-robin s h n q e ∙ ring-hea
 
 -- ---- heads
 
--- the greater key goes first
-before-key : (prio : List ℕ) (a b : ℕ) → a < 32 → b < 32 → before prio a b ≡ cond (ltb (key prio a) (key prio b)) b a
-unfolding before
-before-key prio a b ha hb =
-    tested (ltb (at prio a) (at prio b))
-    (λ e. rw (e, lt-ltb (key prio a) (key prio b) (omega (arith, ltb-true (at prio a) (at prio b) e))))
-    (λ e.
-    tested (ltb (at prio b) (at prio a))
-    (λ f. rw (e, f, le-ltb (key prio a) (key prio b) (omega (arith, ltb-true (at prio b) (at prio a) f))))
-    (λ f.
-    let level : at prio a ≡ at prio b =
-    omega (arith, ltb-false (at prio a) (at prio b) e, ltb-false (at prio b) (at prio a) f) in
-    tested (ltb b a)
-    (λ g. rw (e, f, g, lt-ltb (key prio a) (key prio b) (omega (arith, ltb-true b a g))))
-    (λ g. rw (e, f, g, le-ltb (key prio a) (key prio b) (omega (arith, ltb-false b a g))))))
+-- the task a, with priority x, and another, with priority y
+module _ (prio : List ℕ) (a b x y : ℕ) (ex : x ≡ at prio a) (ey : y ≡ at prio b) where
+  pub before-stays : y < x → before prio a b ≡ a
+  unfolding before
+  before-stays h = rw (← ex, ← ey, le-ltb x y (omega arith), lt-ltb y x h)
 
--- of the first k tasks, the one that goes first is that at the place, with the key top
-pub record Scanned (prio : List ℕ) (n : ℕ) (q : List ℕ) (place top k : ℕ) : Type 0 where
+  pub before-overtakes : (r : Bool) → x ≤ y → r ≡ cond (ltb x y) true (ltb b a) → before prio a b ≡ cond r b a
+  unfolding before
+  before-overtakes r h e = rw (e, ← ex, ← ey, le-ltb y x h) (tested (ltb x y) (λ f. rw f) (λ f. rw f))
+
+-- of the first k tasks, the one that goes first is that at the place
+pub record Scanned (prio : List ℕ) (n : ℕ) (q : List ℕ) (place task top k : ℕ) : Type 0 where
   pub inside : place ≤ n - 1
-  pub keyed : top ≡ key prio (at q place)
+  pub stands : task ≡ at q place
+  pub ranks : top ≡ at prio task
   pub ahead : best prio (at q 0) (drop 1 (take n q)) ≡ best prio (at q place) (drop k (take n q))
 
-pub scanned-step : (prio : List ℕ) (n : ℕ) (q : List ℕ) (place top k other place′ top′ : ℕ) → k < n → n ≤ length q
-    → Tasks q → other ≡ key prio (at q k) → place′ ≡ cond (ltb top other) k place
-    → top′ ≡ cond (ltb top other) other top → Scanned prio n q place top k → Scanned prio n q place′ top′ (k + 1)
+-- the place k is passed, and of the two tasks that at j goes first
+pub scanned-step : (prio : List ℕ) (n : ℕ) (q : List ℕ) (place task top k j place′ task′ top′ : ℕ) → k < n
+    → n ≤ length q → Scanned prio n q place task top k → j ≤ n - 1 → before prio task (at q k) ≡ at q j → place′ ≡ j
+    → task′ ≡ at q j → top′ ≡ at prio (at q j) → Scanned prio n q place′ task′ top′ (k + 1)
 unfolding best
-scanned-step prio n q place top k other place′ top′ h l known o p t S =
+scanned-step prio n q place task top k j place′ task′ top′ h l S i e p t r =
     record {
-      inside = rw p (inside (ltb top other));
-      keyed = rw (t, p) (keyed (ltb top other));
+      inside = omega arith;
+      stands = t ∙ ap (at q) (sym p);
+      ranks = r ∙ ap (at prio) (sym t);
       ahead =
           S .ahead
           ∙ ap (best prio (at q place)) (slice-cons k n q 0 h l)
-          ∙ ap (λ (x : ℕ). best prio x (drop (suc k) (take n q))) first
-          ∙ ap (λ (j : ℕ). best prio (at q place′) (drop j (take n q))) (sym (add-one k));
+          ∙ ap (λ (x : ℕ). best prio (before prio x (at q k)) (drop (suc k) (take n q))) (sym (S .stands))
+          ∙ ap (λ (x : ℕ). best prio x (drop (suc k) (take n q))) (e ∙ ap (at q) (sym p))
+          ∙ ap (λ (m : ℕ). best prio (at q place′) (drop m (take n q))) (sym (add-one k));
     }
-  where
-    inside : (b : Bool) → cond b k place ≤ n - 1
-    inside true = omega arith
-    inside false = S .inside
 
-    keyed : (b : Bool) → cond b other top ≡ key prio (at q (cond b k place))
-    keyed true = o
-    keyed false = S .keyed
-
-    place-at : (b : Bool) → cond b (at q k) (at q place) ≡ at q (cond b k place)
-    place-at true = refl
-    place-at false = refl
-
-    first : before prio (at q place) (at q k) ≡ at q place′
-    first =
-        before-key prio (at q place) (at q k) (known place) (known k)
-        ∙ rw (p, ← o, ← S .keyed) (place-at (ltb top other))
-
-pub scanned-end : (prio : List ℕ) (n : ℕ) (q : List ℕ) (place top k : ℕ) → n ≤ k → n ≤ length q
-    → Scanned prio n q place top k → Best prio n q place
+pub scanned-end : (prio : List ℕ) (n : ℕ) (q : List ℕ) (place task top k : ℕ) → n ≤ k → n ≤ length q
+    → Scanned prio n q place task top k → Best prio n q place
 unfolding best
-scanned-end prio n q place top k h l S =
+scanned-end prio n q place task top k h l S =
     let z : drop k (take n q) ≡ [] = drop-of-length-le (take n q) {i = k} (omega (arith, length-take-le n q l)) in
     record { inside = S .inside; first = sym (S .ahead ∙ ap (best prio (at q place)) z) }
 
@@ -176,26 +157,15 @@ heads-set s h (suc n) q k H =
     }
 
 -- one more task: of it and the best of the others, the one that goes first
-pub best-more : (prio q : List ℕ) (h n r x y : ℕ) → n < length q → Tasks q → Best prio n q h → x ≡ key prio (at q h)
-    → y ≡ key prio (at q n) → r ≡ cond (ltb x y) n h → Best prio (n + 1) q r
+pub best-more : (prio q : List ℕ) (h n r : ℕ) → n < length q → r ≤ n → before prio (at q h) (at q n) ≡ at q r
+    → Best prio n q h → Best prio (n + 1) q r
 unfolding best
-best-more prio q h n r x y l known B ex ey f =
+best-more prio q h n r l i e B =
     record {
-      inside = rw f (inside (ltb x y));
-      first = rw f (place (ltb x y)) ∙ sym first ∙ ap (λ (k : ℕ). before prio k (at q n)) (B .first) ∙ more q n l;
+      inside = omega arith;
+      first = sym e ∙ ap (λ (k : ℕ). before prio k (at q n)) (B .first) ∙ more q n l;
     }
   where
-    first : before prio (at q h) (at q n) ≡ cond (ltb x y) (at q n) (at q h)
-    first = rw (ex, ey) (before-key prio (at q h) (at q n) (known h) (known n))
-
-    inside : (b : Bool) → cond b n h ≤ n + 1 - 1
-    inside true = omega arith
-    inside false = omega (arith, B .inside)
-
-    place : (b : Bool) → at q (cond b n h) ≡ cond b (at q n) (at q h)
-    place true = refl
-    place false = refl
-
     more : (q : List ℕ) (n : ℕ) → n < length q
         → before prio (best prio (at q 0) (drop 1 (take n q))) (at q n) ≡ best prio (at q 0) (drop 1 (take (n + 1) q))
     more [] n l = absurd (not-suc-le-zero l)

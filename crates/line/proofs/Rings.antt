@@ -1,14 +1,16 @@
--- Laws of the queue's array as a list. In order: the ring; the ring put straight; a task taken out at its place.
--- Assumes nothing.
+-- Laws of the queue's array as a list. In order: the ring; the ring put straight; one task more; a task taken out at its
+-- place. Assumes nothing.
 use Prim.Native.Nat.{ℕ, zero, suc, _+_, _-_, _≤_, _<_}
 use native.Mathlib.Omega.{arith}
 use native.Mathlib.Numerals.{add-one}
 use mathlib.Core.Path.{_≡_, sym, ap, _∙_}
 use mathlib.Core.Bool.{cond}
 use mathlib.Core.List.{List, [], _∷_, _++_, append-assoc, append-nil}
-use lib.ListN.{length, take, drop, set, length-append, length-drop, take-append-drop, drop-of-length-le}
-use lib.Seq.{take-suc, take-length, take-take, take-at, take-all, take-append-le, take-append-add, length-take-le}
-use lib.Seq.{drop-cons, drop-length, drop-drop, drop-at, drop-append-le, drop-append-add, getD-drop, set-at}
+use lib.ListN.{length, take, drop, set, replicate, length-append, length-drop, take-append-drop}
+use lib.ListN.{replicate-append-replicate}
+use lib.Seq.{take-suc, take-length, take-take, take-at, take-append-le, take-append-add, length-take-le}
+use lib.Seq.{drop-cons, drop-length, drop-drop, drop-at, drop-append-le, drop-append-add, drop-set-lt, getD-drop}
+use lib.Seq.{set-at}
 use lib.Seq.{slice-cons, length-slice, paste, paste-zero, length-paste, take-paste, drop-paste}
 use lib.Dec.{eqb, ltb}
 use borrow.Author.Tests.{eqb-true, ltb-false}
@@ -91,6 +93,16 @@ straight-paste h n q b l =
     ∙ ap (λ (x : List ℕ). x ++ take h q ++ drop n q) (f ∙ sym (drop-take h n q b))
     ∙ ap (λ (x : List ℕ). drop h (take n q) ++ x ++ drop n q) (sym (take-take h n q b))
 
+-- ---- one task more
+
+pub clear-set : (n k : ℕ) (q : List ℕ) → n < 32 → drop n q ≡ replicate (32 - n) 0
+    → drop (n + 1) (set q n k) ≡ replicate (32 - (n + 1)) 0
+clear-set n k q b z =
+    let m : 32 - n ≡ suc (32 - (n + 1)) = omega arith in
+    drop-set-lt (n + 1) q n k (omega arith)
+    ∙ sym (drop-drop 1 n q)
+    ∙ ap (drop 1) (z ∙ ap (λ (j : ℕ). replicate j 0) m)
+
 -- ---- a task taken out
 
 pub takenOut-below : (m h : ℕ) (q : List ℕ) → Below m q → Below m (takenOut h q)
@@ -115,6 +127,13 @@ takenOut-length h q b =
 -- those behind place h have moved up as far as to place k
 abbrev pub MovedUp : ℕ → List ℕ → ℕ → List ℕ → Type 0
 MovedUp h q k x = x ≡ paste q h (drop (h + 1) q) (k - h)
+
+clear-behind : (q : List ℕ) (n : ℕ) → drop n q ≡ replicate (32 - n) 0 → 0 ∷ drop n q ≡ drop n q ++ 0 ∷ []
+clear-behind q n z =
+    ap (λ (y : List ℕ). 0 ∷ y) z
+    ∙ ap (λ (y : ℕ). replicate y 0) (sym (add-one (32 - n)))
+    ∙ sym (replicate-append-replicate (32 - n) 1 0)
+    ∙ ap (λ (y : List ℕ). y ++ 0 ∷ []) (sym z)
 
 module _ (h : ℕ) (q : List ℕ) (b : h < 32) (w : length q ≡ 32) where
   pub movedUp-start : MovedUp h q h q
@@ -148,24 +167,38 @@ module _ (h : ℕ) (q : List ℕ) (b : h < 32) (w : length q ≡ 32) where
       ∙ paste-next q q h (h + 1) j (omega arith) (omega arith)
       ∙ ap (λ (y : ℕ). paste q h t y) i
 
-  pub movedUp-end : (k : ℕ) (x : List ℕ) → k ≡ 31 → MovedUp h q k x → set x 31 0 ≡ takenOut h q
-  movedUp-end k x l e =
+  -- the last place is cleared, as those behind the n tasks are
+  pub movedUp-end : (n k : ℕ) (x : List ℕ) → h < n → n ≤ 32 → drop n q ≡ replicate (32 - n) 0 → k ≡ n - 1
+      → MovedUp h q k x → set x (n - 1) 0 ≡ takenOut h q
+  movedUp-end n k x a l z i e =
+      let m = n - 1 - h in
       let t = drop (h + 1) q in
-      let p = take h q ++ t in
-      let lp : length p ≡ 31 =
-      omega (arith, length-append (take h q) t, length-take-le h q (omega arith), length-drop (h + 1) q) in
-      let a : take (k - h) t ≡ t = take-all (k - h) t (simp length-drop (omega arith)) in
-      let i : h + (k - h) ≡ 31 = omega arith in
-      let d : drop 31 q ≡ at q 31 ∷ [] =
-      drop-cons q 31 0 (omega arith)
-      ∙ ap (λ (y : List ℕ). at q 31 ∷ y) (drop-of-length-le q {i = suc 31} (omega arith)) in
-      ap (λ (y : List ℕ). set y 31 0)
+      let p = take h q ++ take m t in
+      let i′ : k - h ≡ m = omega arith in
+      let j : h + m ≡ n - 1 = omega arith in
+      let s : suc (n - 1) ≡ n = omega arith in
+      let u : h + 1 + m ≡ n = omega arith in
+      let lp : length p ≡ n - 1 =
+      omega (
+        arith,
+        length-append (take h q) (take m t),
+        length-take-le h q (omega arith),
+        length-take-le m t (simp length-drop (omega arith)),
+      ) in
+      let d : drop (n - 1) q ≡ at q (n - 1) ∷ drop n q =
+      drop-cons q (n - 1) 0 (omega arith) ∙ ap (λ (y : ℕ). at q (n - 1) ∷ drop y q) s in
+      ap (λ (y : List ℕ). set y (n - 1) 0)
       (e
-      ∙ ap (λ (y : List ℕ). take h q ++ y ++ drop (h + (k - h)) q) a
-      ∙ ap (λ (y : ℕ). p ++ drop y q) i
+      ∙ ap (λ (y : ℕ). paste q h t y) i′
+      ∙ ap (λ (y : ℕ). p ++ drop y q) j
       ∙ ap (λ (y : List ℕ). p ++ y) d)
-      ∙ set-at p (at q 31) [] 0 31 lp
-      ∙ append-assoc (take h q) t (0 ∷ [])
+      ∙ set-at p (at q (n - 1)) (drop n q) 0 (n - 1) lp
+      ∙ ap (λ (y : List ℕ). p ++ y) (clear-behind q n z)
+      ∙ append-assoc (take h q) (take m t) (drop n q ++ 0 ∷ [])
+      ∙ ap (λ (y : List ℕ). take h q ++ y)
+      (sym (append-assoc (take m t) (drop n q) (0 ∷ []))
+      ∙ ap (λ (y : List ℕ). (take m t ++ y) ++ 0 ∷ []) (sym (drop-drop m (h + 1) q ∙ ap (λ (y : ℕ). drop y q) u))
+      ∙ ap (λ (y : List ℕ). y ++ 0 ∷ []) (take-append-drop m t))
 
 module _ (h n : ℕ) (q : List ℕ) (b : h < n) (l : n ≤ length q) where
   head-length : length (take h q) ≡ h

@@ -1,6 +1,5 @@
--- The queue in its array. In order: its tasks; a task taken out; who goes first, and where the task stands that is
--- served. Assumes nothing.
-use Prim.Native.Nat.{ℕ, _+_, _-_, _*_, _≤_, _<_}
+-- The queue in its array. In order: its tasks; a task taken out; where the task stands that is served. Assumes nothing.
+use Prim.Native.Nat.{ℕ, _+_, _-_, _≤_, _<_}
 use mathlib.Core.Path.{_≡_}
 use mathlib.Core.Bool.{true, false, cond}
 use mathlib.Core.List.{List, [], _∷_, _++_}
@@ -27,11 +26,6 @@ Tasks q = (k : ℕ) → at q k < 32
 -- the task at a place leaves, and those behind it move up
 abbrev pub takenOut : ℕ → List ℕ → List ℕ
 takenOut place q = take place q ++ (drop (place + 1) q ++ 0 ∷ [])
-
--- "the greatest priority number ..; among equals, .. the smaller task number": of two tasks the one with the greater
--- key goes first
-abbrev pub key : List ℕ → ℕ → ℕ
-key prio task = at prio task * 32 + (31 - task)
 
 -- Among the first n places, that of the task that goes first; place 0 where n is 0.
 pub record Best (prio : List ℕ) (n : ℕ) (q : List ℕ) (place : ℕ) : Type 0 where

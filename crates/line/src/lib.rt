@@ -1,11 +1,13 @@
 // The queue's array: the loops over its places, and who goes first.
 use rule::Setup;
 ghost use mathlib.Core.Path.{_≡_};
+ghost use mathlib.Core.Bool.{true, cond};
 ghost use mathlib.Core.List.{_++_};
 ghost use Prim.Native.Nat.{ℕ, _+_, _-_, _≤_, _<_};
-ghost use lib.ListN.{length, drop};
+ghost use lib.Dec.{ltb};
+ghost use lib.ListN.{length, drop, replicate};
 ghost use lib.Seq.{paste};
-ghost use Rattle.line.specs.Places.{ring, takenOut, Tasks, key, Best, Heads};
+ghost use Rattle.line.specs.Places.{ring, takenOut, Tasks, Best, Heads};
 
 // A stretch of q is put into an array.
 fn put(into: [u8; 32], at: usize, q: [u8; 32], from: usize, count: usize) -> [u8; 32]
@@ -33,33 +35,30 @@ pub fn straight(q: [u8; 32], head: usize, n: usize) -> [u8; 32]
     put(part, n - head, q, 0, head)
 }
 
-// The task at a place leaves, and those behind it move up.
-pub fn take_out(queue: &mut [u8; 32], place: usize)
+// The task at a place leaves, and those of the n tasks that are behind it move up.
+pub fn take_out(queue: &mut [u8; 32], place: usize, n: usize)
     requires { ⌜ length (now queue) ≡ 32 ⌝ }
-    requires { ⌜ place < 32 ⌝ }
+    requires { ⌜ (place < n) × (n ≤ 32) ⌝ }
+    requires { ⌜ drop n (now queue) ≡ replicate (32 - n) 0 ⌝ }
     ensures { λ r. ⌜ now (queue .exit) ≡ takenOut place (now (queue .entry)) ⌝ }
 {
+    let last = n - 1;
     let mut k = place;
-    while k < 31 {
+    while k < last {
         queue[k] = queue[k + 1];
         k += 1;
     }
-    queue[31] = 0;
+    queue[last] = 0;
 }
 
-// A byte that is known to be below 256: of one read from a lent array that is not known.
-fn wide(x: u8) -> u32
-    ensures { λ r. ⌜ (r ≡ x) × (r < 256) ⌝ }
+// Of two tasks, whether the second goes before the first, which has no greater priority.
+fn overtakes(task: u8, top: u8, other: u8, p: u8) -> bool
+    ensures { λ r. ⌜ r ≡ cond (ltb top p) true (ltb other task) ⌝ }
 {
-    x as u32
-}
-
-// The order in which open tasks go first, as one number.
-fn key_of(priority: &[u8; 32], task: u8) -> u32
-    requires { ⌜ task < 32 ⌝ }
-    ensures { λ r. ⌜ r ≡ key (now (priority .entry)) task ⌝ }
-{
-    wide(priority[task as usize]) * 32 + (31 - task as u32)
+    if top < p {
+        return true;
+    }
+    other < task
 }
 
 // The place of the task that goes first among n.
@@ -70,13 +69,19 @@ fn best_place(priority: &[u8; 32], n: usize, queue: &[u8; 32]) -> usize
     ensures { λ r. ⌜ Best (now (priority .entry)) n (now (queue .entry)) r ⌝ }
 {
     let mut place: usize = 0;
-    let mut top = key_of(priority, queue[0]);
+    let mut task = queue[0];
+    let mut top = priority[task as usize];
     let mut k: usize = 1;
     while k < n {
-        let other = key_of(priority, queue[k]);
-        if top < other {
-            place = k;
-            top = other;
+        let other = queue[k];
+        let p = priority[other as usize];
+        // Most of the others have a smaller priority. Judged first and apart, such a place takes half the instructions.
+        if top <= p {
+            if overtakes(task, top, other, p) {
+                place = k;
+                task = other;
+                top = p;
+            }
         }
         k += 1;
     }
@@ -108,7 +113,17 @@ pub fn head_with(s: Setup, place: usize, n: usize, queue: &[u8; 32]) -> usize
     if s.policy != 1 {
         return place;
     }
-    let p = s.priority;
-    let top = key_of(&p, queue[place]);
-    if top < key_of(&p, queue[n]) { n } else { place }
+    let priority = s.priority;
+    let task = queue[place];
+    let other = queue[n];
+    let top = priority[task as usize];
+    let p = priority[other as usize];
+    if p < top {
+        return place;
+    }
+    if overtakes(task, top, other, p) {
+        n
+    } else {
+        place
+    }
 }

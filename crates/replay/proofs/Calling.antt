@@ -3,14 +3,11 @@
 use Prim.Native.Nat.{ℕ, _+_, _-_, _≤_, _<_}
 use native.Mathlib.Omega.{arith}
 use mathlib.Core.Path.{_≡_, refl, sym, ap, _∙_, subst}
-use mathlib.Core.Bool.{not}
-use mathlib.Core.Logic.{_⊎_, inl, inr}
-use lib.Dec.{ltb, leb, eqb}
-use borrow.Author.Tests.{lt-ltb, le-ltb, eq-eqb, ne-eqb}
-use Rattle.lists.specs.Lists.{total, within}
-use Rattle.lists.proofs.Testing.{cond-true, cond-false, cond-both}
-use Rattle.rule.specs.State.{State, isOpen}
-use Rattle.rule.specs.Calls.{lastTime, mostAmount, moved, drained, Call, request, advance, drain, requestRefusal, advanceRefusal, refusal, effect, call}
+use borrow.Author.Tests.{lt-ltb, le-ltb, eq-eqb}
+use Rattle.lists.specs.Lists.{total}
+use Rattle.lists.proofs.Testing.{cond-true}
+use Rattle.rule.specs.State.{State}
+use Rattle.rule.specs.Calls.{lastTime, moved, drained, Call, request, advance, drain, requestRefusal, advanceRefusal, refusal, effect}
 use Rattle.rule.specs.View.{view, Shows, Promised}
 use Rattle.rule.specs.declared.Run.{Run}
 use Rattle.laws.specs.Sound.{Sound}
@@ -19,7 +16,6 @@ use Rattle.laws.proofs.Refusals.{refused-stays, accepted-acts}
 use Rattle.steps.specs.Parts.{parts}
 use Rattle.engine.specs.Promises.{Apart, asked}
 use Rattle.steps.specs.declared.Cursor.{Cursor}
-use Rattle.replay.specs.Answers.{Called}
 
 -- ---- a run taken apart
 
@@ -50,15 +46,6 @@ promised-accepted run c n m r f e z h =
     record { answer = f ∙ e; run = shows-then h (sym (accepted-acts (view run) c (sym e ∙ z))) }
 
 -- ---- requests
-
-pub request-called : (s : State) (t k a : ℕ) → Called (requestRefusal s t k a)
-unfolding requestRefusal
-request-called s t k a =
-    cond-both Called (ltb lastTime t) 10 _ (inr (omega arith, omega arith))
-    (cond-both Called (ltb t (s .clock)) 11 _ (inr (omega arith, omega arith))
-    (cond-both Called (leb (s .setup .count) k) 12 _ (inr (omega arith, omega arith))
-    (cond-both Called (not (within 1 mostAmount a)) 13 _ (inr (omega arith, omega arith))
-    (cond-both Called (isOpen (moved s t) k) 14 0 (inr (omega arith, omega arith)) (inl refl)))))
 
 pub asked-accepted : (s : State) (t k a : ℕ) → requestRefusal s t k a ≡ 0 → asked s t k a ≡ effect s (request t k a)
 unfolding asked effect

@@ -1,3 +1,4 @@
 pub mod Starting
 pub mod Calling
+pub mod Opening
 pub mod Unique

@@ -1,8 +1,6 @@
 -- What each case of an answer tells: "a definition gives this paper's number and values for each of its cases". Assumes
 -- nothing.
-use Prim.Native.Nat.{ℕ, _≤_}
-use mathlib.Core.Path.{_≡_}
-use mathlib.Core.Logic.{_⊎_}
+use Prim.Native.Nat.{ℕ}
 use Rattle.rule.specs.Readings.{Reading, value, never, refused, Soonest, nothing, done}
 use Rattle.replay.specs.declared.start.SetupAnswer.{SetupAnswer}
 use Rattle.replay.specs.declared.start.SetupAnswer.the-variants as setup
@@ -31,10 +29,6 @@ callNumber call.TimeBeforeClock = 11
 callNumber call.NoSuchTask = 12
 callNumber call.WrongAmount = 13
 callNumber call.StillOpen = 14
-
--- a number that a call may have
-abbrev pub Called : ℕ → Type 0
-Called n = (n ≡ 0) ⊎ ((10 ≤ n) × (n ≤ 14))
 
 -- ticks of a task
 abbrev pub ticksTold : TaskTicks → Reading

@@ -1,11 +1,11 @@
 // The calls on a run: request, advance, drain. A refused call gives back the very run.
 use rule::Run;
 ghost use mathlib.Core.Path.{_≡_};
-ghost use Prim.Native.Nat.{_≤_};
-ghost use Rattle.rule.specs.Calls.{moved, request, advance, drain};
+ghost use Prim.Native.Nat.{_≤_, _<_};
+ghost use Rattle.rule.specs.Calls.{moved, opened, request, advance, drain};
 ghost use Rattle.rule.specs.View.{view, Tidy, MadeRun, Shows, Promised};
 ghost use Rattle.laws.specs.Sound.{Sound};
-ghost use Rattle.replay.specs.Answers.{callNumber, Called};
+ghost use Rattle.replay.specs.Answers.{callNumber};
 
 pub enum CallAnswer {
     Accepted,
@@ -21,14 +21,11 @@ pub struct Moved {
     pub run: Run,
 }
 
-// The answer with a number.
+// The answer with a number from 10 to 13.
 fn answer_of(refusal: u32) -> CallAnswer
-    requires { ⌜ Called refusal ⌝ }
+    requires { ⌜ (10 ≤ refusal) × (refusal ≤ 13) ⌝ }
     ensures { λ r. ⌜ callNumber r ≡ refusal ⌝ }
 {
-    if refusal == 0 {
-        return CallAnswer::Accepted;
-    }
     if refusal == 10 {
         return CallAnswer::TimePastLimit;
     }
@@ -38,10 +35,7 @@ fn answer_of(refusal: u32) -> CallAnswer
     if refusal == 12 {
         return CallAnswer::NoSuchTask;
     }
-    if refusal == 13 {
-        return CallAnswer::WrongAmount;
-    }
-    CallAnswer::StillOpen
+    CallAnswer::WrongAmount
 }
 
 // The clock moves to a time that is not before it.
@@ -62,33 +56,43 @@ fn moved_to(run: Run, time: u32) -> Run
     engine::run_of(s, cursor, &queue, &owed, &given, &done)
 }
 
+// The task joins the back of the queue.
+fn opened_by(run: Run, task: u8, amount: u32) -> Run
+    requires { ⌜ Tidy run ⌝ }
+    requires { ⌜ run .queued < 32 ⌝ }
+    requires { ⌜ task < 32 ⌝ }
+    ensures { λ r. ⌜ Shows r (opened (view run) task amount) ⌝ }
+{
+    let mut next = run;
+    let i = task as usize;
+    next.owed[i] = amount;
+    let n = next.queued;
+    next.queue[n] = task;
+    next.queued = n + 1;
+    next
+}
+
 // Moves the clock to the time and opens the task.
 pub fn request(run: Run, time: u32, task: u32, amount: u32) -> Moved
     requires { ⌜ MadeRun run ⌝ }
     ensures { λ r. ⌜ Promised run (request time task amount) (callNumber (r .answer)) (r .run) ⌝ }
 {
-    let s = run.setup;
-    let mut queue = run.queue;
-    let mut owed = run.owed;
-    let mut given = run.given;
-    let mut done = run.done;
-    let c = engine::cursor_of(run);
-    let asked = engine::ask(
-        s,
-        c,
-        time,
-        task,
-        amount,
-        &mut queue,
-        &mut owed,
-        &mut given,
-        &mut done,
-    );
-    let answer = answer_of(asked.refusal);
-    if asked.refusal != 0 {
+    let early = engine::early_refusal(run.setup.count, run.clock, time, task, amount);
+    if early != 0 {
+        return Moved {
+            answer: answer_of(early),
+            run,
+        };
+    }
+    let ready = moved_to(run, time);
+    let i = task as usize;
+    let o = ready.owed[i];
+    if 0 < o {
+        let answer = CallAnswer::StillOpen;
         return Moved { answer, run };
     }
-    let after = engine::run_of(s, asked.cursor, &queue, &owed, &given, &done);
+    let after = opened_by(ready, task as u8, amount);
+    let answer = CallAnswer::Accepted;
     Moved { answer, run: after }
 }
 

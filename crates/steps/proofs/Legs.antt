@@ -134,8 +134,11 @@ module _ (s : Setup) (c : Cursor) (q o g d : List ℕ) (K : Kept s c q) (S : Sou
     pub leg-known : l .task < 32
     leg-known = omega (arith, at-inside o (l .task) (omega (arith, leg-owes, L .once .some)), S .owed32)
 
-    pub leg-gives : c .clock + l .n < 2 ^ 32 → at g (l .task) + l .n < 2 ^ 32
-    leg-gives t = omega (arith, S .spent, at-le-total g (l .task))
+    pub leg-time : c .clock + limit ≤ 4_032_000_000 → l .cursor .clock + l .n < 2 ^ 32
+    leg-time t = omega (arith, L .once .asked, leg-clock)
+
+    pub leg-gives : c .clock + limit ≤ 4_032_000_000 → at g (l .task) + l .n < 2 ^ 32
+    leg-gives t = omega (arith, S .spent, at-le-total g (l .task), L .once .asked)
 
     pub leg-turn : parts s (l .cursor) q o g d ≡ turn (parts s c q o g d)
     leg-turn = ap (λ (x : Cursor). parts s x q o g d) (L .turned) ∙ parts-turn s c q K some o g d

@@ -161,7 +161,7 @@ fn finished(
     let clock = c.clock + n;
     done[i] = clock;
     let left = c.queued - 1;
-    line::take_out(queue, c.head);
+    line::take_out(queue, c.head, c.queued);
     let head = line::head_of(s, c.head, left, queue);
     Cursor {
         clock,
@@ -200,6 +200,34 @@ fn slice_due(s: Setup, c: Cursor, limit: u32) -> bool
     s.slice <= limit
 }
 
+// The next row of ticks is given.
+fn give_leg(
+    s: Setup,
+    c: Cursor,
+    limit: u32,
+    queue: &mut [u8; 32],
+    owed: &mut [u32; 32],
+    given: &mut [u32; 32],
+    done: &mut [u32; 32],
+) -> Cursor
+    requires { ⌜ Kept s c (now queue) ⌝ }
+    requires { ⌜ Sound (parts s c (now queue) (now owed) (now given) (now done)) ⌝ }
+    requires { ⌜ 0 < limit ⌝ }
+    requires { ⌜ c .clock + limit ≤ 4_032_000_000 ⌝ }
+    requires { ⌜ 0 < c .queued ⌝ }
+    ensures { λ r. ⌜ Stepped s r (now (queue .exit)) limit
+        (parts s c (now (queue .entry)) (now (owed .entry)) (now (given .entry)) (now (done .entry)))
+        (parts s r (now (queue .exit)) (now (owed .exit)) (now (given .exit)) (now (done .exit))) ⌝ }
+{
+    let leg = next_leg(s, c, limit, queue, owed);
+    given_to(leg, owed, given);
+    let ready = leg.cursor;
+    if leg.owed == leg.n {
+        return finished(s, ready, leg.task, leg.n, queue, done);
+    }
+    served(s, ready, leg.n)
+}
+
 // Some ticks later, at least one and at most limit: idle ones, or a row of ticks to one task.
 pub fn step(
     s: Setup,
@@ -221,6 +249,10 @@ pub fn step(
     if c.queued == 0 {
         return rested(c, limit);
     }
+    // With a branch of its own priority has no turn to look for: a step takes 22 instructions and not 55.
+    if s.policy == 1 {
+        return give_leg(s, c, limit, queue, owed, given, done);
+    }
     // Nearly all steps under round robin give a whole slice to a task that is owed more. Judged first and apart, such a
     // step takes 36 instructions and not 49.
     if slice_due(s, c, limit) {
@@ -230,11 +262,5 @@ pub fn step(
             return served(s, leg.cursor, leg.n);
         }
     }
-    let leg = next_leg(s, c, limit, queue, owed);
-    given_to(leg, owed, given);
-    let ready = leg.cursor;
-    if leg.owed == leg.n {
-        return finished(s, ready, leg.task, leg.n, queue, done);
-    }
-    served(s, ready, leg.n)
+    give_leg(s, c, limit, queue, owed, given, done)
 }

@@ -1,15 +1,13 @@
 -- The refusals before the rows: what columns that fit have, and the three ways in which a table is answered. Assumes nothing.
-use Prim.Native.Nat.{ℕ, _≤_, _<_}
-use native.Mathlib.Omega.{arith}
+use Prim.Native.Nat.{ℕ, _<_}
 use mathlib.Core.Path.{_≡_, refl, sym, ap, _∙_, subst}
 use mathlib.Core.List.{List}
 use lib.ListN.{length}
-use lib.Dec.{eqb}
 use borrow.Author.Tests.{eq-eqb, ne-eqb}
 use Rattle.lists.proofs.Testing.{cond-true, cond-false}
 use Rattle.rule.specs.Setups.{setupRefusal}
 use Rattle.rule.specs.State.{fresh}
-use Rattle.rule.specs.Table.{Outcome, refused, outcomeFrom, rows, columnRefusal, tableRefusal, tableFrom, table, written}
+use Rattle.rule.specs.Table.{Outcome, outcomeFrom, rows, columnRefusal, tableRefusal, tableFrom, table, written}
 use Rattle.rule.specs.declared.Setup.{Setup}
 use Rattle.laws.specs.Rows.{Tabled}
 use Rattle.laws.proofs.Tables.{table-tabled}
@@ -39,7 +37,7 @@ module _ (p : Setup) (ts ks ms before : List ℕ) where
     pub columns-tabled : Tabled p (length ts) (length ks) (length ms) (length before)
     columns-tabled = table-tabled p (length ts) (length ks) (length ms) (length before) (judged-columns z ∙ f)
 
-    pub columns-fitting : (noted : List ℕ) → 1_024 < length noted → Fitting p ts ks ms noted
+    pub columns-fitting : (noted : List ℕ) → length ts < length noted → Fitting p ts ks ms noted
     columns-fitting noted h =
         let q = columns-tabled in
         record {
@@ -47,7 +45,7 @@ module _ (p : Setup) (ts ks ms before : List ℕ) where
           tasks-too = q .tasks-equal;
           amounts-too = q .amounts-equal;
           few = q .few;
-          room = omega (arith, q .few);
+          room = h;
         }
 
   -- ---- the three ways

@@ -10,7 +10,7 @@ use Rattle.lists.specs.Lists.{at, total}
 use Rattle.lists.proofs.Testing.{cond-same}
 use Rattle.rule.specs.Setups.{setupRefusal, isPriority}
 use Rattle.rule.specs.State.{State, fresh}
-use Rattle.rule.specs.Calls.{lastTime, moved, drained, opened, Call, request, requestRefusal, refusal, effect, call}
+use Rattle.rule.specs.Calls.{lastTime, drained, opened, Call, request, refusal, effect, call}
 use Rattle.rule.specs.Table.{refused, finished, completions, rows}
 use Rattle.rule.specs.declared.Setup.{Setup}
 use Rattle.laws.specs.Sound.{Sound}
@@ -27,7 +27,6 @@ use Rattle.engine.specs.Promises.{Asks, Reached}
 use Rattle.engine.specs.declared.Asked.{Asked}
 use Rattle.replay.proofs.Calling.{asked-accepted}
 use Rattle.table.specs.Inside.{Fitting, Runs, settled}
-use Rattle.table.specs.declared.Ran.{Ran}
 use Rattle.table.proofs.Taking.{Kept, kept-start, kept-refused, kept-step, kept-outcome, kept-many, kept-known, kept-each}
 
 -- ---- a fresh run in parts

@@ -130,6 +130,30 @@ fn column_refusal(times: usize, tasks: usize, amounts: usize, room: usize) -> u3
     0
 }
 
+// The rows of an accepted setup and of columns that fit, with notes for each row and one more.
+fn run_noted(
+    setup: Setup,
+    times: &[u32],
+    tasks: &[u32],
+    amounts: &[u32],
+    noted: &mut [u32],
+    result: &mut [u32],
+) -> TableAnswer
+    requires { ⌜ setupRefusal setup ≡ 0 ⌝ }
+    requires { ⌜ columnRefusal (length (now times)) (length (now tasks)) (length (now amounts)) (length (now result)) ≡ 0 ⌝ }
+    requires { ⌜ length (now times) < length (now noted) ⌝ }
+    ensures { λ r. ⌜ Answers (outcomeFrom (fresh setup) (rows (now (times .entry)) (now (tasks .entry)) (now (amounts .entry)))) (now (result .entry)) r (now (result .exit)) ⌝ }
+{
+    let ran = run_rows(setup, times, tasks, amounts, noted);
+    if ran.refusal != 0 {
+        return TableAnswer::Refused(ran.refusal, ran.row);
+    }
+    let last = ran.last;
+    let done = ran.done;
+    put(tasks, last, done, noted, result);
+    TableAnswer::Finished(ran.end)
+}
+
 // The rows of an accepted setup and of columns that fit.
 fn run_table(
     setup: Setup,
@@ -142,15 +166,13 @@ fn run_table(
     requires { ⌜ columnRefusal (length (now times)) (length (now tasks)) (length (now amounts)) (length (now result)) ≡ 0 ⌝ }
     ensures { λ r. ⌜ Answers (outcomeFrom (fresh setup) (rows (now (times .entry)) (now (tasks .entry)) (now (amounts .entry)))) (now (result .entry)) r (now (result .exit)) ⌝ }
 {
-    let mut noted = [0u32; 1025];
-    let ran = run_rows(setup, times, tasks, amounts, &mut noted);
-    if ran.refusal != 0 {
-        return TableAnswer::Refused(ran.refusal, ran.row);
+    // To clear the notes for 1,024 rows takes 4,000 instructions, as many as 20 rows: short tables have shorter ones.
+    if times.len() < 65 {
+        let mut few = [0u32; 65];
+        return run_noted(setup, times, tasks, amounts, &mut few, result);
     }
-    let last = ran.last;
-    let done = ran.done;
-    put(tasks, last, done, &noted, result);
-    TableAnswer::Finished(ran.end)
+    let mut noted = [0u32; 1025];
+    run_noted(setup, times, tasks, amounts, &mut noted, result)
 }
 
 // The table run: each row's completion in the result column, and the end; or a refusal, and the column as it was. Any

@@ -5,7 +5,7 @@ use mathlib.Core.Path.{_≡_, sym, _∙_}
 use borrow.Author.Needs.{needs}
 use Rattle.laws.specs.Sound.{Sound}
 use Rattle.steps.specs.Parts.{parts}
-use Rattle.engine.specs.Inner.{earlyRefusal}
+use Rattle.engine.specs.Promises.{earlyRefusal}
 use Rattle.steps.proofs.Legs.{kept-tasks}
 use Rattle.engine.proofs.Requests.{Passed, early-passed, asks-early, asks-open, queue-room, asks-taken}
 use Rattle.engine.proofs.ask.Statement.{statement}

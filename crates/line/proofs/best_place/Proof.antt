@@ -1,38 +1,46 @@
 -- Invariant: the best of the places passed (Heads). Measure: the places left.
 use Prim.Native.Nat.{ℕ, _+_, _-_, _≤_}
 use native.Mathlib.Omega.{arith}
-use mathlib.Core.Path.{_≡_, refl, sym, _∙_}
-use mathlib.Core.Bool.{cond}
+use mathlib.Core.Path.{_≡_, refl, sym, ap, _∙_}
+use mathlib.Core.Bool.{true, false}
 use mathlib.Core.Logic.{⊎-elim}
 use lib.ListN.{length}
-use lib.Dec.{ltb}
 use borrow.Author.Needs.{needs}
-use borrow.Author.Tests.{lt-ltb, le-ltb}
-use Rattle.lists.proofs.Testing.{cond-true, cond-false}
-use Rattle.line.proofs.Heads.{Scanned, scanned-step, scanned-end}
+use Rattle.lists.specs.Lists.{at}
+use Rattle.rule.specs.Tick.{before}
+use Rattle.line.proofs.Heads.{Scanned, scanned-step, scanned-end, before-stays, before-overtakes}
 use Rattle.line.proofs.best_place.Statement.{statement}
 use Rattle.line.proofs.best_place.Tie as tie
 
 abbrev Inv-loop : tie.InvT-loop
-Inv-loop priority n queue place₀ top₀ k₀ place top k = Scanned priority n queue place top k
+Inv-loop priority n queue place₀ task₀ top₀ k₀ place task top k = Scanned priority n queue place task top k
 
 abbrev μ-loop : tie.MeasureT-loop
-μ-loop priority n queue place₀ top₀ k₀ place top k = n - k
+μ-loop priority n queue place₀ task₀ top₀ k₀ place task top k = n - k
 
-element-copy-out-key-of : tie.Need-element-copy-out-key-of Inv-loop μ-loop
-element-copy-out-key-of c = search needs
+element-copy-out-task : tie.Need-element-copy-out-task Inv-loop μ-loop
+element-copy-out-task c = search needs
 
-key-of-requires : tie.Need-key-of-requires Inv-loop μ-loop
-key-of-requires c κs = c .before .pre .1 .0 0
+cast-top : tie.Need-cast-top Inv-loop μ-loop
+cast-top c = omega (arith, c .before .pre .1 .0 0)
+
+element-copy-out-top : tie.Need-element-copy-out-top Inv-loop μ-loop
+element-copy-out-top c = c .before .pre .1 .0 0
 
 loop-holds : tie.Need-loop-holds Inv-loop μ-loop
-loop-holds c = record { inside = omega arith; keyed = c .key-of .ensures; ahead = refl }
+loop-holds c = record { inside = omega arith; stands = refl; ranks = refl; ahead = refl }
 
-element-copy-out-key-of-2 : tie.Need-element-copy-out-key-of-2 Inv-loop μ-loop
-element-copy-out-key-of-2 c = search needs
+element-copy-out-other : tie.Need-element-copy-out-other Inv-loop μ-loop
+element-copy-out-other c = search needs
 
-key-of-requires-2 : tie.Need-key-of-requires-2 Inv-loop μ-loop
-key-of-requires-2 c κs = c .before .before .before .before .before .pre .1 .0 (c .before .before .loop .k)
+cast-p : tie.Need-cast-p Inv-loop μ-loop
+cast-p c = omega (arith, c .before .before .before .before .before .pre .1 .0 (c .before .before .loop .k))
+
+element-copy-out-p : tie.Need-element-copy-out-p Inv-loop μ-loop
+element-copy-out-p c = c .before .before .before .before .before .pre .1 .0 (c .before .before .loop .k)
+
+overtakes-requires : tie.Need-overtakes-requires Inv-loop μ-loop
+overtakes-requires c κs = search needs
 
 add-k : tie.Need-add-k Inv-loop μ-loop
 add-k c = search needs
@@ -45,27 +53,34 @@ loop-again c =
     let s = c .before .before .before .before .before .before .before in
     let i = c .before .before .before .before .loop in
     let q = s .args .queue .now in
-    let other = c .before .key-of2 .result in
+    let prio = s .args .priority .now in
     let l : s .args .n ≤ length q = omega (arith, s .pre .0, s .pre .1 .1) in
-    let on : (p t : ℕ) → p ≡ cond (ltb (i .top) other) (i .k) (i .place) → t ≡ cond (ltb (i .top) other) other (i .top)
-    → Scanned (s .args .priority .now) (s .args .n) q p t (i .k + 1) =
-    λ p t e f.
-    scanned-step (s .args .priority .now) (s .args .n) q (i .place) (i .top) (i .k) other p t
-    (c .before .before .before .loop-test .taken) l (s .pre .1 .0) (c .before .key-of2 .ensures) e f (i .inv) in
+    let h = c .before .before .before .loop-test .taken in
+    let on : (j p t r : ℕ) → j ≤ s .args .n - 1 → before prio (i .task) (at q (i .k)) ≡ at q j → p ≡ j → t ≡ at q j
+    → r ≡ at prio (at q j) → Scanned prio (s .args .n) q p t r (i .k + 1) =
+    λ j p t r. scanned-step prio (s .args .n) q (i .place) (i .task) (i .top) (i .k) j p t r h l (i .inv) in
+    let stays : before prio (i .task) (at q (i .k)) ≡ i .task → (p t r : ℕ) → p ≡ i .place → t ≡ i .task → r ≡ i .top
+    → Scanned prio (s .args .n) q p t r (i .k + 1) =
+    λ e p t r ep et er.
+    on (i .place) p t r (i .inv .inside) (e ∙ i .inv .stands) ep (et ∙ i .inv .stands)
+    (er ∙ i .inv .ranks ∙ ap (at prio) (i .inv .stands)) in
+    let second = before-overtakes prio (i .task) (at q (i .k)) (i .top) (at prio (at q (i .k))) (i .inv .ranks) refl in
     ⊎-elim
     (λ x.
-    let b = lt-ltb _ _ (x .0 .taken) in
-    on _ _ (x .1 ∙ sym (cond-true _ _ b)) (x .2 ∙ sym (cond-true _ _ b)))
+    on (i .k) _ _ _ (omega (arith, h)) (second true (x .0 .taken) (sym (x .2 .taken) ∙ x .1 .ensures)) (x .3) (x .4) (x .5))
+    (⊎-elim
     (λ x.
-    let b = le-ltb _ _ (x .0 .left) in
-    on _ _ (x .1 ∙ sym (cond-false _ _ b)) (x .2 ∙ sym (cond-false _ _ b)))
+    stays (second false (x .0 .taken) (sym (x .2 .left) ∙ x .1 .ensures)) _ _ _ (x .3) (x .4) (x .5))
+    (λ x.
+    stays (before-stays prio (i .task) (at q (i .k)) (i .top) (at prio (at q (i .k))) (i .inv .ranks) refl (x .0 .left))
+    _ _ _ (x .1) (x .2) (x .3)))
     (c .if1 .came)
 
 returns : tie.Need-returns Inv-loop μ-loop
 returns c =
     let s = c .before .before .before .before in
     let i = c .before .loop in
-    scanned-end _ _ (s .args .queue .now) (i .place) (i .top) (i .k) (c .loop-test .left)
+    scanned-end _ _ (s .args .queue .now) (i .place) (i .task) (i .top) (i .k) (c .loop-test .left)
     (omega (arith, s .pre .0, s .pre .1 .1)) (i .inv)
 
 pub best-place-spec : {M : Type 1} → statement M
@@ -74,11 +89,14 @@ best-place-spec =
     (tie.spec
     Inv-loop
     μ-loop
-    element-copy-out-key-of
-    key-of-requires
+    element-copy-out-task
+    cast-top
+    element-copy-out-top
     loop-holds
-    element-copy-out-key-of-2
-    key-of-requires-2
+    element-copy-out-other
+    cast-p
+    element-copy-out-p
+    overtakes-requires
     add-k
     loop-less
     loop-again

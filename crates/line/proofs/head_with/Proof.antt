@@ -1,14 +1,15 @@
--- Of the head and the task that joined, the one with the greater key (Heads).
-use Prim.Native.Nat.{ℕ, _+_, _<_}
+-- Of the head and the task that joined, the one that goes first (Heads).
+use Prim.Native.Nat.{ℕ, _+_, _<_, _≤_}
 use native.Mathlib.Omega.{arith}
-use mathlib.Core.Path.{_≡_, sym}
-use mathlib.Core.Bool.{cond}
-use lib.Dec.{ltb}
-use borrow.Author.Tests.{eqb-true, eqb-false, lt-ltb, le-ltb}
+use mathlib.Core.Path.{_≡_, refl, sym, _∙_}
+use mathlib.Core.Bool.{true, false}
+use borrow.Author.Tests.{eqb-true, eqb-false, lt-ltb}
 use borrow.Author.Needs.{needs}
-use Rattle.lists.proofs.Testing.{cond-true, cond-false}
+use Rattle.lists.specs.Lists.{at}
+use Rattle.lists.proofs.Testing.{cond-true}
+use Rattle.rule.specs.Tick.{before}
 use Rattle.line.specs.Places.{Heads}
-use Rattle.line.proofs.Heads.{heads-inside, best-more}
+use Rattle.line.proofs.Heads.{heads-inside, best-more, before-stays, before-overtakes}
 use Rattle.line.proofs.head_with.Statement.{statement}
 use Rattle.line.proofs.head_with.Tie as tie
 
@@ -16,22 +17,22 @@ use Rattle.line.proofs.head_with.Tie as tie
 below : (s : tie.Start) → s .args .place < s .args .n + 1
 below s = omega (arith, heads-inside _ _ _ _ _ (s .pre .1 .1 .1))
 
-abbrev start : tie.After-key-of2 → tie.Start
-start c = c .before .before .before .before .before .before .before .before .before
+-- the places: under priority, with both tasks read
+abbrev start : tie.After-other → tie.Start
+start c = c .before .before .before .before .before
 
-more : (c : tie.After-key-of2) (r : ℕ)
+more : (c : tie.After-other) (r : ℕ)
     → let a = start c .args in
-    r ≡ cond (ltb (c .before .before .before .key-of .result) (c .key-of2 .result)) (a .n) (a .place)
+    r ≤ a .n → before (a .s .priority) (at (a .queue .now) (a .place)) (at (a .queue .now) (a .n)) ≡ at (a .queue .now) r
     → Heads (a .s) (a .place) (a .n + 1) (a .queue .now) r
-more c r e =
+more c r i e =
     let s = start c in
     let a = s .args in
     record {
-      robin = λ f. absurd (eqb-false _ 1 f (c .before .before .before .before .before .before .before .if1 .left));
+      robin = λ f. absurd (eqb-false _ 1 f (c .before .before .before .if1 .left));
       priority = λ f.
-          best-more (a .s .priority) (a .queue .now) (a .place) (a .n) r _ _ (omega (arith, s .pre .0, s .pre .1 .1 .0))
-          (s .pre .1 .0) (s .pre .1 .1 .1 .priority f) (c .before .before .before .key-of .ensures)
-          (c .key-of2 .ensures) e;
+          best-more (a .s .priority) (a .queue .now) (a .place) (a .n) r (omega (arith, s .pre .0, s .pre .1 .1 .0)) i e
+          (s .pre .1 .1 .1 .priority f);
     }
 
 returns : tie.Need-returns
@@ -41,34 +42,58 @@ returns c =
       priority = λ e. absurd (c .if1 .taken (eqb-true _ 1 e));
     }
 
-element-copy-out-key-of : tie.Need-element-copy-out-key-of
-element-copy-out-key-of c = let s = c .before .before .before .before in omega (arith, below s, s .pre .1 .1 .0)
+element-copy-out-task : tie.Need-element-copy-out-task
+element-copy-out-task c = let s = c .before .before .before in omega (arith, below s, s .pre .1 .1 .0)
 
-key-of-requires : tie.Need-key-of-requires
-key-of-requires c κs = let s = c .before .before .before .before .before in s .pre .1 .0 (s .args .place)
+element-copy-out-other : tie.Need-element-copy-out-other
+element-copy-out-other c = search needs
 
-element-copy-out-key-of-2 : tie.Need-element-copy-out-key-of-2
-element-copy-out-key-of-2 c = search needs
+cast-top : tie.Need-cast-top
+cast-top c = let s = start c in omega (arith, s .pre .1 .0 (s .args .place))
 
-key-of-requires-2 : tie.Need-key-of-requires-2
-key-of-requires-2 c κs =
-    let s = c .before .before .before .before .before .before .before .before in
-    s .pre .1 .0 (s .args .n)
+array-read-top : tie.Need-array-read-top
+array-read-top c = let s = start c in s .pre .1 .0 (s .args .place)
+
+cast-p : tie.Need-cast-p
+cast-p c = let s = start c in omega (arith, s .pre .1 .0 (s .args .n))
+
+array-read-p : tie.Need-array-read-p
+array-read-p c = let s = start c in s .pre .1 .0 (s .args .n)
 
 returns-2 : tie.Need-returns-2
-returns-2 c = more (c .before) _ (sym (cond-true _ _ (lt-ltb _ _ (c .if2 .taken))))
+returns-2 c =
+    let l = c .before in
+    more l _ (omega (arith, below (start l))) (before-stays _ _ _ _ _ refl refl (c .if2 .taken))
+
+overtakes-requires : tie.Need-overtakes-requires
+overtakes-requires c κs = search needs
 
 returns-3 : tie.Need-returns-3
-returns-3 c = more (c .before) _ (sym (cond-false _ _ (le-ltb _ _ (c .if2 .left))))
+returns-3 c =
+    let l = c .before .before .before in
+    more l _ (omega arith)
+    (before-overtakes _ _ _ _ _ refl refl true (c .before .before .if2 .left)
+    (sym (c .if3 .taken) ∙ c .before .overtakes .ensures))
+
+returns-4 : tie.Need-returns-4
+returns-4 c =
+    let l = c .before .before .before in
+    more l _ (omega (arith, below (start l)))
+    (before-overtakes _ _ _ _ _ refl refl false (c .before .before .if2 .left)
+    (sym (c .if3 .left) ∙ c .before .overtakes .ensures))
 
 pub head-with-spec : {M : Type 1} → statement M
 head-with-spec =
     tie.close
     (tie.spec
     returns
-    element-copy-out-key-of
-    key-of-requires
-    element-copy-out-key-of-2
-    key-of-requires-2
+    element-copy-out-task
+    element-copy-out-other
+    cast-top
+    array-read-top
+    cast-p
+    array-read-p
     returns-2
-    returns-3)
+    overtakes-requires
+    returns-3
+    returns-4)

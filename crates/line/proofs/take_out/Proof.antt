@@ -1,5 +1,5 @@
 -- Invariant: the places passed hold what stood behind them (Rings). Measure: the places left.
-use Prim.Native.Nat.{_-_, _≤_}
+use Prim.Native.Nat.{_-_, _≤_, _<_}
 use native.Mathlib.Omega.{arith}
 use mathlib.Core.Path.{_≡_}
 use lib.ListN.{length}
@@ -9,23 +9,29 @@ use Rattle.line.proofs.take_out.Statement.{statement}
 use Rattle.line.proofs.take_out.Tie as tie
 
 abbrev Inv-loop : tie.InvT-loop
-Inv-loop queue₀ place k₀ queue k = (place ≤ k) × (k ≤ 31) × MovedUp place queue₀ k queue
+Inv-loop queue₀ place n last k₀ queue k = (place ≤ k) × (k ≤ last) × MovedUp place queue₀ k queue
 
 abbrev μ-loop : tie.MeasureT-loop
-μ-loop queue₀ place k₀ queue k = 31 - k
+μ-loop queue₀ place n last k₀ queue k = last - k
+
+inside : (c : tie.Start Inv-loop μ-loop) → c .args .place < 32
+inside c = omega (arith, c .pre .1 .0)
 
 whole : (c : tie.At-loop Inv-loop μ-loop) → length (c .loop .queue) ≡ 32
 whole c =
     let s = c .before in
     let i = c .loop in
-    movedUp-length (s .args .place) (s .args .queue .now) (s .pre .1) (s .pre .0) (i .k) (i .queue) (i .inv .0)
-    (omega (arith, i .inv .1)) (i .inv .2)
+    movedUp-length (s .args .place) (s .args .queue .now) (inside s) (s .pre .0) (i .k) (i .queue) (i .inv .0)
+    (omega (arith, i .inv .1, s .pre .1 .0)) (i .inv .2)
+
+sub-last : tie.Need-sub-last Inv-loop μ-loop
+sub-last c = omega (arith, c .pre .1 .0)
 
 loop-holds : tie.Need-loop-holds Inv-loop μ-loop
 loop-holds c = (
   omega arith,
   omega (arith, c .pre .1),
-  movedUp-start (c .args .place) (c .args .queue .now) (c .pre .1) (c .pre .0),
+  movedUp-start (c .args .place) (c .args .queue .now) (inside c) (c .pre .0),
 )
 
 add-queue : tie.Need-add-queue Inv-loop μ-loop
@@ -49,8 +55,8 @@ loop-again c =
     let i = c .before .before .loop in (
       omega arith,
       omega arith,
-      movedUp-step (s .args .place) (s .args .queue .now) (s .pre .1) (s .pre .0) (i .k) (i .queue) (i .inv .0)
-          (c .before .loop-test .taken) (i .inv .2),
+      movedUp-step (s .args .place) (s .args .queue .now) (inside s) (s .pre .0) (i .k) (i .queue) (i .inv .0)
+          (omega (arith, c .before .loop-test .taken, s .pre .1 .0)) (i .inv .2),
     )
 
 element-write-queue-2 : tie.Need-element-write-queue-2 Inv-loop μ-loop
@@ -60,8 +66,8 @@ returns : tie.Need-returns Inv-loop μ-loop
 returns c =
     let s = c .before .before in
     let i = c .before .loop in
-    movedUp-end (s .args .place) (s .args .queue .now) (s .pre .1) (s .pre .0) (i .k) (i .queue) (omega arith)
-    (i .inv .2)
+    movedUp-end (s .args .place) (s .args .queue .now) (inside s) (s .pre .0) (s .args .n) (i .k) (i .queue)
+    (s .pre .1 .0 .0) (s .pre .1 .0 .1) (s .pre .1 .1) (omega (arith, i .inv .1, c .loop-test .left)) (i .inv .2)
 
 pub take-out-spec : {M : Type 1} → statement M
 take-out-spec =
@@ -69,6 +75,7 @@ take-out-spec =
     (tie.spec
     Inv-loop
     μ-loop
+    sub-last
     loop-holds
     add-queue
     element-copy-out-queue

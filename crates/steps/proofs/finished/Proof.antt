@@ -19,7 +19,10 @@ sub-left : tie.Need-sub-left
 sub-left c = search needs
 
 take-out-requires : tie.Need-take-out-requires
-take-out-requires c κs = search needs
+take-out-requires c κs =
+    let s = c .before .before .before in
+    let K = s .pre .1 .0 in
+    (K .whole, ((omega (arith, K .inside, s .pre .1 .1 .0), K .fits), K .clear))
 
 head-of-requires : tie.Need-head-of-requires
 head-of-requires c κs =

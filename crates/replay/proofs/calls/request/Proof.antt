@@ -1,81 +1,112 @@
--- `replay::calls::request` meets its contract: the run is taken apart and asked; refused, the run that was given comes back;
--- accepted, the parts are put together. Assumes nothing.
-use mathlib.Core.Path.{_≡_, refl, sym, ap, _∙_, subst}
+-- `replay::calls::request` meets its contract: refused by 10 to 13 with the run that was given, or moved; then refused by 14 with
+-- the run that was given, or opened (Opening). Assumes nothing.
+use Prim.Native.Nat.{_<_}
+use native.Mathlib.Omega.{arith}
+use mathlib.Core.Path.{_≡_, refl, sym, _∙_}
 use borrow.Author.Needs.{needs}
-use Prim.Native.Nat.{ℕ}
-use Rattle.rule.specs.State.{State}
-use Rattle.rule.specs.Calls.{Call, request, requestRefusal, refusal}
+use Rattle.rule.specs.Calls.{Call, request}
 use Rattle.rule.specs.View.{view}
 use Rattle.laws.proofs.Made.{made-sound}
-use Rattle.engine.specs.Promises.{asked}
-use Rattle.replay.specs.Answers.{Called}
-use Rattle.replay.proofs.Calling.{apart-sound, shows-then, promised-refused, promised-accepted, request-called, asked-accepted}
+use Rattle.engine.specs.Promises.{earlyRefusal}
+use Rattle.engine.proofs.Requests.{Passed, early-passed, early-between}
+use Rattle.replay.proofs.Calling.{promised-refused, promised-accepted}
+use Rattle.replay.proofs.Opening.{early-number, open-number, taken-number, taken-room, taken-shows}
 use Rattle.replay.proofs.calls.request.Statement.{statement}
 use Rattle.replay.proofs.calls.request.Tie as tie
 
--- the places: the run taken apart, and the call's start
-abbrev apart : tie.After-ask → tie.After-cursor-of
-apart c = c .before .before .before .before .before
+abbrev asking : tie.Start → Call
+asking c = request (c .args .time) (c .args .task) (c .args .amount)
 
-abbrev start : tie.After-cursor-of → tie.Start
-start c = c .before .before .before .before .before .before
+-- the place past the refusals by 10 to 13, and what is known there
+abbrev start : tie.Else1 → tie.Start
+start c = c .before .before
 
-abbrev asking : tie.After-ask → Call
-asking c =
-    let a = start (apart c) .args in
-    request (a .time) (a .task) (a .amount)
+early : (c : tie.Else1)
+    → let a = start c .args in earlyRefusal (a .run .setup .count) (a .run .clock) (a .time) (a .task) (a .amount) ≡ 0
+early c = sym (c .before .early-refusal .ensures) ∙ c .if1 .left
 
--- the number is the rule's
-number : (c : tie.After-ask) → c .ask .result .refusal ≡ refusal (view (start (apart c) .args .run)) (asking c)
-unfolding refusal
-number c =
-    let a = start (apart c) .args in
-    c .ask .ensures .answer
-    ∙ ap (λ (s : State). requestRefusal s (a .time) (a .task) (a .amount)) (apart c .cursor-of .ensures .shown)
+passed : (c : tie.Else1)
+    → let a = start c .args in Passed (a .run .setup .count) (a .run .clock) (a .time) (a .task) (a .amount)
+passed c = early-passed _ _ _ _ _ (early c)
 
-cursor-of-requires : tie.Need-cursor-of-requires
-cursor-of-requires c κs =
-    let m = c .before .before .before .before .before .pre in
-    (m .tidy, made-sound _ (m .made))
+known : (c : tie.Else1) → start c .args .task < 32
+known c = omega (arith, passed c .task, made-sound _ (start c .pre .made) .few)
 
-ask-requires : tie.Need-ask-requires
-ask-requires c κs =
-    let here = c .before .before .before .before in
-    let a = here .cursor-of .ensures in
-    (a .kept, apart-sound _ _ (made-sound _ (start here .pre .made)) a)
+early-refusal-requires : tie.Need-early-refusal-requires
+early-refusal-requires c κs = search needs
 
 answer-of-requires : tie.Need-answer-of-requires
-answer-of-requires c κs = subst Called (sym (c .ask .ensures .answer)) (request-called _ _ _ _)
+answer-of-requires c κs =
+    let s = c .before .before in
+    let e = c .before .early-refusal .ensures in
+    let b = early-between (view (s .args .run)) (s .args .time) (s .args .task) (s .args .amount)
+    (λ z. c .if1 .taken (e ∙ z)) in
+    (omega (arith, e, b .0), omega (arith, e, b .1))
 
 returns : tie.Need-returns
 returns c =
-    let here = c .before .before .before in
-    promised-refused _ (asking here) _ _ (c .before .before .answer-of .ensures) (number here) (c .if1 .taken)
-    record { tidy = start (apart here) .pre .tidy; shown = refl }
+    let s = c .before .before .before in
+    let e = c .before .before .early-refusal .ensures in
+    promised-refused _ (asking s) _ _ (c .answer-of .ensures)
+    (e ∙ early-number (view (s .args .run)) _ _ _ (λ z. c .before .if1 .taken (e ∙ z)))
+    (c .before .if1 .taken)
+    record { tidy = s .pre .tidy; shown = refl }
 
-run-of-requires : tie.Need-run-of-requires
-run-of-requires c κs = search needs
+moved-to-requires : tie.Need-moved-to-requires
+moved-to-requires c κs =
+    let s = start c in
+    (s .pre .tidy, (made-sound _ (s .pre .made), (passed c .later, omega (arith, passed c .time))))
+
+mul-o : tie.Need-mul-o
+mul-o c = search needs
+
+element-copy-out-o : tie.Need-element-copy-out-o
+element-copy-out-o c = known (c .before)
 
 returns-2 : tie.Need-returns-2
 returns-2 c =
-    let here = c .before .before .before .before .before .before .before .before in
-    let a = start (apart here) .args in
-    let z = c .before .before .before .before .before .if1 .left in
-    let e = apart here .cursor-of .ensures .shown in
-    promised-accepted _ (asking here) _ _ _ (c .before .before .before .before .before .before .before .answer-of .ensures)
-    (number here) z
-    (shows-then (c .run-of .ensures)
-    (here .ask .ensures .left .shown
-    ∙ ap (λ (s : State). asked s (a .time) (a .task) (a .amount)) e
-    ∙ asked-accepted _ _ _ _ (sym (ap (λ (s : State). requestRefusal s (a .time) (a .task) (a .amount)) e) ∙ sym (here .ask .ensures .answer) ∙ z)))
+    let m = c .before .before in
+    let s = start (m .before) in
+    promised-refused _ (asking s) _ 14 refl
+    (open-number (view (s .args .run)) _ _ _ (early (m .before)) _ (m .moved-to .ensures) (c .if2 .taken))
+    (λ z. omega arith)
+    record { tidy = s .pre .tidy; shown = refl }
+
+cast-opened-by : tie.Need-cast-opened-by
+cast-opened-by c = omega (arith, known (c .before .before .before))
+
+opened-by-requires : tie.Need-opened-by-requires
+opened-by-requires c κs =
+    let m = c .before .before in
+    let s = start (m .before) in (
+      m .moved-to .ensures .tidy,
+      (
+        taken-room (view (s .args .run)) _ _ _ (early (m .before)) _ (m .moved-to .ensures) (made-sound _ (s .pre .made))
+            (omega (arith, c .if2 .left)),
+        known (m .before),
+      ),
+    )
+
+returns-3 : tie.Need-returns-3
+returns-3 c =
+    let m = c .before .before .before in
+    let s = start (m .before) in
+    promised-accepted _ (asking s) _ 0 _ refl
+    (taken-number (view (s .args .run)) _ _ _ (early (m .before)) _ (m .moved-to .ensures) (omega (arith, c .before .if2 .left)))
+    refl
+    (taken-shows (view (s .args .run)) _ _ _ (early (m .before)) _ (m .moved-to .ensures) _ (c .opened-by .ensures))
 
 pub request-spec : {M : Type 1} → statement M
 request-spec =
     tie.close
     (tie.spec
-    cursor-of-requires
-    ask-requires
+    early-refusal-requires
     answer-of-requires
     returns
-    run-of-requires
-    returns-2)
+    moved-to-requires
+    mul-o
+    element-copy-out-o
+    returns-2
+    cast-opened-by
+    opened-by-requires
+    returns-3)
