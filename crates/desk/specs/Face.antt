@@ -6,8 +6,8 @@ use lib.ListN.{length}
 use Rattle.rule.specs.Readings.{Reading, value, never, refused, Soonest, nothing, done}
 use Rattle.rule.specs.Table as rule
 use Rattle.rule.specs.Table.{written}
-use Rattle.log.specs.Log as log
-use Rattle.log.specs.Log.{accepted, judged}
+use Rattle.judging.specs.Log as log
+use Rattle.judging.specs.Log.{accepted, judged}
 use Rattle.log.specs.Records.{askedTimes}
 use Rattle.replay.specs.Answers.{callNumber}
 use Rattle.replay.specs.declared.calls.Moved.{Moved}

@@ -1,5 +1,5 @@
 // The C face, described in include/anduri.h: each function is a call of a proved one, with plain numbers for its answer.
-use log::Judged;
+use judging::Judged;
 use replay::calls::CallAnswer;
 use replay::calls::Moved;
 use replay::readings::Completion;
@@ -16,7 +16,7 @@ ghost use Rattle.rule.specs.Calls.{request, advance, drain};
 ghost use Rattle.rule.specs.Readings.{owedOf, givenOf, completedOf, nextDone};
 ghost use Rattle.rule.specs.Table.{table};
 ghost use Rattle.rule.specs.View.{view, MadeRun, Started, Promised};
-ghost use Rattle.log.specs.Log.{judged};
+ghost use Rattle.judging.specs.Log.{judged};
 ghost use Rattle.text.specs.Writes.{WroteUpTo};
 ghost use Rattle.report.specs.Report.{reportText};
 ghost use Rattle.replay.specs.Answers.{setupNumber, callNumber, ticksTold, completionTold, nextTold};
@@ -270,7 +270,7 @@ pub extern "C" fn anduri_table(
 pub extern "C" fn anduri_judge(log: &[u8]) -> Verdict
     ensures { λ r. ⌜ r ≡ verdictFace (now (log .entry)) (judged (now (log .entry))) ⌝ }
 {
-    let verdict = log::judge(log);
+    let verdict = judging::judge(log);
     match verdict {
         Judged::Accepted => Verdict {
             refusal: 0,

@@ -10,10 +10,10 @@ use lib.Dec.{leb, ltb}
 use borrow.Author.Tests.{leb-true, ltb-true}
 use Rattle.lists.proofs.Testing.{and-true}
 use Rattle.words.specs.Words.{word}
-use Rattle.log.specs.Blocks.{blocks, block, count}
-use Rattle.log.specs.Log.{Verdict, accepted, refused, judged, Reads}
+use Rattle.judging.specs.Blocks.{blocks, block, count}
+use Rattle.judging.specs.Log.{Verdict, accepted, refused, judged, Reads}
 use Rattle.log.specs.Records.{afterLog, blockAsked, stretch}
-use Rattle.log.proofs.Accepted.{refused-not, cond-accepted, accepted-sized, accepted-counted, word-block}
+use Rattle.judging.proofs.Accepted.{refused-not, cond-accepted, accepted-sized, accepted-counted, word-block}
 
 after-accepted : (v next : Verdict) → afterLog v next ≡ accepted → (v ≡ accepted) × (next ≡ accepted)
 after-accepted accepted next e = (refl, e)

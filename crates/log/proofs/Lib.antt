@@ -1,6 +1,4 @@
-pub mod Blocks
-pub mod Judging
-pub mod Accepted
+pub mod Setups
 pub mod Rows
 pub mod Asking
 pub mod Unique

@@ -15,13 +15,13 @@ use Rattle.words.specs.Words.{word}
 use Rattle.words.proofs.Words.{word-drop}
 use Rattle.rule.specs.Calls.{Call, request}
 use Rattle.rule.specs.Table.{rows, columnRefusal}
-use Rattle.log.specs.Blocks.{blocks, block, count, recordsTo}
-use Rattle.log.specs.Log.{Reads}
+use Rattle.judging.specs.Blocks.{blocks, block, count, recordsTo}
+use Rattle.judging.specs.Log.{Reads}
 use Rattle.log.specs.Records.{entries, columnFrom, column, askedTimes, rowList, rowAt}
 use Rattle.log.specs.declared.Record.{Record}
-use Rattle.log.proofs.Blocks.{Counted, records-zero, records-more}
-use Rattle.log.proofs.Accepted.{accepted-sized, accepted-counted, accepted-last, accepted-most, lt-of-ne}
-use Rattle.log.proofs.Accepted.{word-block}
+use Rattle.judging.proofs.Blocks.{Counted, records-zero, records-more}
+use Rattle.judging.proofs.Accepted.{accepted-sized, accepted-counted, accepted-last, accepted-most, lt-of-ne}
+use Rattle.judging.proofs.Accepted.{word-block}
 
 -- ---- the records of one block
 

@@ -9,8 +9,8 @@ use Rattle.words.specs.Words.{word}
 use Rattle.rule.specs.Calls.{Call}
 use Rattle.rule.specs.Table.{rows}
 use Rattle.rule.specs.declared.Setup.{Setup}
-use Rattle.log.specs.Blocks.{blocks, block, setupIn, count}
-use Rattle.log.specs.Log.{Verdict, accepted, refused, judged}
+use Rattle.judging.specs.Blocks.{blocks, block, setupIn, count}
+use Rattle.judging.specs.Log.{Verdict, accepted, refused, judged}
 use Rattle.log.specs.declared.Record.{Record}
 use Rattle.log.specs.declared.Found.{Found}
 use Rattle.log.specs.declared.Found.the-variants.{Row, End}

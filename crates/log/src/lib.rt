@@ -1,20 +1,11 @@
-// The desk's log form: judging the bytes of a log, and reading the records of one that was accepted. What a log is
-// judged to be, and what its setup and rows are, is said in specs/.
+// The desk's log form: reading the records of a log that was accepted. What its setup and rows are is said in specs/.
 ghost use mathlib.Core.Path.{_≡_};
 ghost use lib.ListN.{length};
-ghost use Rattle.log.specs.Log.{told, judged, Reads};
+ghost use Rattle.judging.specs.Log.{told, Reads};
 ghost use Rattle.log.specs.Records.{setupOf, askedTimes, rowAt, found, blockAsked, stretch};
+use judging::Judged;
 use rule::Setup;
-use search::judge_blocks;
 use words::word_at;
-
-mod search; // search.rt: the first refusal of the blocks
-
-// What a log is judged to be: accepted, or refused with a number and a block.
-pub enum Judged {
-    Accepted,
-    Refused { number: u32, block: usize },
-}
 
 // A record of a log.
 pub struct Record {
@@ -29,37 +20,11 @@ pub enum Found {
     End,
 }
 
-// What a log is judged to be.
-pub fn judge(log: &[u8]) -> Judged
-    ensures { λ r. ⌜ told r ≡ judged (now (log .entry)) ⌝ }
-{
-    let blocks = log.len() / 512;
-    if log.len() % 512 != 0 {
-        return Judged::Refused {
-            number: 30,
-            block: 0,
-        };
-    }
-    if blocks == 0 {
-        return Judged::Refused {
-            number: 30,
-            block: 0,
-        };
-    }
-    if 26 < blocks {
-        return Judged::Refused {
-            number: 30,
-            block: 0,
-        };
-    }
-    judge_blocks(log, blocks)
-}
-
 // The refusal of asking for a record block: the log's own, else 34; or none.
 pub fn block_refusal(log: &[u8], block: usize) -> Judged
     ensures { λ r. ⌜ told r ≡ blockAsked (now (log .entry)) block ⌝ }
 {
-    let judged = judge(log);
+    let judged = judging::judge(log);
     match judged {
         Judged::Accepted => {
             if block == 0 {

@@ -9,11 +9,11 @@ use lib.ListN.{length}
 use borrow.Author.Tests.{lt-ltb, le-ltb, lt-leb, le-leb, eq-eqb, ne-eqb}
 use Rattle.lists.proofs.Testing.{equal-or}
 use Rattle.words.specs.Words.{word}
-use Rattle.log.specs.Blocks.{blocks, block}
+use Rattle.judging.specs.Blocks.{blocks, block}
 use Rattle.log.specs.Records.{askedTimes, rowAt}
 use Rattle.log.specs.declared.Found.the-variants.{Row, End}
 use Rattle.log.specs.declared.Record.{Record}
-use Rattle.log.proofs.Accepted.{accepted-counted, word-block}
+use Rattle.judging.proofs.Accepted.{accepted-counted, word-block}
 use Rattle.log.proofs.Rows.{column-blocks, column-most, column-some, row-here}
 use Rattle.reader.specs.Reading.{rowNumber, hasRow, takenAt, Reached}
 

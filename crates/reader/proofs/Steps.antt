@@ -9,7 +9,7 @@ use lib.Seq.{drop-cons}
 use lib.Dec.{ltb}
 use borrow.Author.Tests.{ltb-true, ltb-false, lt-ltb, le-ltb, le-leb, eq-eqb, ne-eqb}
 use denote.Ref.{RefT, now}
-use Rattle.log.specs.Log.{Verdict, accepted, refused, judged, Reads}
+use Rattle.judging.specs.Log.{Verdict, accepted, refused, judged, Reads}
 use Rattle.lists.proofs.Testing.{tested, equal-or}
 use Rattle.rule.specs.Calls.{drain}
 use Rattle.log.specs.Records.{askedTimes, rowList, rowAt, found}

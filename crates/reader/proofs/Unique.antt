@@ -5,9 +5,9 @@ use mathlib.Core.Path.{sym, _∙_}
 use mathlib.Core.List.{List}
 use denote.Ref.{RefT, now}
 use Rattle.rule.specs.View.{Determined}
-use Rattle.log.specs.Log.{judged}
+use Rattle.judging.specs.Log.{judged}
 use Rattle.log.specs.declared.Found.{Found}
-use Rattle.log.proofs.Unique.{told-determined}
+use Rattle.judging.proofs.Unique.{told-determined}
 use Rattle.reader.specs.Reading.{Started, OpenedOn, Stepped, FirstOf}
 use Rattle.reader.specs.declared.Reader.{Reader}
 

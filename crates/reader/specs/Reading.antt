@@ -9,7 +9,7 @@ use denote.Ref.{RefT, now}
 use Rattle.rule.specs.Setups.{plain}
 use Rattle.rule.specs.Calls.{Call, request, advance, drain}
 use Rattle.rule.specs.declared.Setup.{Setup}
-use Rattle.log.specs.Log.{Verdict, accepted, refused, told, judged, Reads}
+use Rattle.judging.specs.Log.{Verdict, accepted, refused, told, judged, Reads}
 use Rattle.log.specs.Records.{setupOf, askedTimes, rowAt}
 use Rattle.log.specs.declared.Found.{Found}
 use Rattle.log.specs.declared.Found.the-variants.{Row, End}

@@ -3,8 +3,8 @@
 ghost use mathlib.Core.Path.{_≡_};
 ghost use Rattle.reader.specs.Reading.{takenAt, setupAt, Stands, Started, OpenedOn, Standing, takenBy, setupBy};
 ghost use Rattle.reader.specs.Reading.{Stepped, FirstOf};
+use judging::Judged;
 use log::Found;
-use log::Judged;
 use log::Record;
 use rule::Setup;
 use words::word_at;
@@ -90,7 +90,7 @@ pub struct Start {
 pub fn start_of(log: &[u8]) -> Start
     ensures { λ r. ⌜ Started (now (log .entry)) r ⌝ }
 {
-    let verdict = log::judge(log);
+    let verdict = judging::judge(log);
     match verdict {
         Judged::Accepted => Start { verdict, block: 1 },
         Judged::Refused {

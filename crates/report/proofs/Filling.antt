@@ -8,7 +8,7 @@ use lib.ListN.{length, take, set, length-set}
 use lib.Seq.{take-suc, take-suc-set, take-all}
 use borrow.Author.Tests.{lt-ltb}
 use Rattle.lists.specs.Lists.{at}
-use Rattle.log.specs.Log.{Reads}
+use Rattle.judging.specs.Log.{Reads}
 use Rattle.log.specs.Records.{askedTimes, askedTasks, askedAmounts, column, rowAt, found}
 use Rattle.log.specs.declared.Record.{Record}
 use Rattle.log.proofs.Rows.{length-column, column-most}

@@ -11,10 +11,10 @@ use Rattle.rule.specs.Setups.{setupRefusal}
 use Rattle.rule.specs.State.{fresh}
 use Rattle.rule.specs.Table.{outcomeFrom, rows, columnRefusal}
 use Rattle.rule.specs.declared.Setup.{Setup}
-use Rattle.log.specs.Blocks.{blocks, lengthFits}
-use Rattle.log.specs.Log.{Verdict, accepted, refused, blockRefusal, judgedFrom, judged, Reads}
+use Rattle.judging.specs.Blocks.{blocks, lengthFits}
+use Rattle.judging.specs.Log.{Verdict, accepted, refused, blockRefusal, judgedFrom, judged, Reads}
 use Rattle.log.specs.Records.{setupOf, askedTimes, askedTasks, askedAmounts, rowList}
-use Rattle.log.proofs.Accepted.{accepted-setup}
+use Rattle.log.proofs.Setups.{accepted-setup}
 use Rattle.log.proofs.Rows.{column-most, columns-fit}
 use Rattle.text.specs.Text.{refusedLine}
 use Rattle.report.specs.Filled.{AllFilled}

@@ -4,7 +4,7 @@ use mathlib.Core.List.{List}
 use Rattle.rule.specs.State.{fresh}
 use Rattle.rule.specs.Table as rule
 use Rattle.rule.specs.Table.{Outcome, finished, outcomeFrom}
-use Rattle.log.specs.Log.{Verdict, accepted, refused, judged}
+use Rattle.judging.specs.Log.{Verdict, accepted, refused, judged}
 use Rattle.log.specs.Records.{setupOf, askedTimes, askedTasks, askedAmounts, rowList}
 use Rattle.text.specs.Text.{tableText, refusedLine}
 

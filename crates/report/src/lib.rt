@@ -1,6 +1,6 @@
 // The work of the printing program: from the bytes that were read to the bytes that are written.
+use judging::Judged;
 use log::Found;
-use log::Judged;
 use log::Record;
 use rule::Setup;
 use table::TableAnswer;
@@ -9,7 +9,7 @@ ghost use lib.ListN.{length};
 ghost use Rattle.rule.specs.Setups.{setupRefusal};
 ghost use Rattle.rule.specs.State.{fresh};
 ghost use Rattle.rule.specs.Table.{rows, outcomeFrom, columnRefusal};
-ghost use Rattle.log.specs.Log.{Reads};
+ghost use Rattle.judging.specs.Log.{Reads};
 ghost use Rattle.log.specs.Records.{askedTimes};
 ghost use Rattle.text.specs.Writes.{WroteUpTo};
 ghost use Rattle.report.specs.Filled.{recordIn, Roomy, AllFilled};
@@ -109,7 +109,7 @@ fn put_log(log: &[u8], out: &mut [u8; 65536]) -> usize
 pub fn report(log: &[u8], out: &mut [u8; 65536]) -> usize
     ensures { λ r. ⌜ WroteUpTo 65_536 (now (out .entry)) (now (out .exit)) 0 (reportText (now (log .entry))) r ⌝ }
 {
-    let judged = log::judge(log);
+    let judged = judging::judge(log);
     match judged {
         Judged::Accepted => put_log(log, out),
         Judged::Refused { number, block } => text::put_refused(number, block as u32, out),

@@ -8,8 +8,8 @@ use Rattle.rule.specs.Setups.{sliceFits, bytesFit, setupRefusal}
 use Rattle.rule.specs.Tick.{before, best, chosen, overdue, headBack, turn, usedMore, give, rest, serve, tickOn, tick, ticks}
 use Rattle.rule.specs.Calls.{moved, drained, opened, effect, requestRefusal, advanceRefusal, refusal, call, calls}
 use Rattle.rule.specs.Table.{completion, completions, unlessRefused, outcomeFrom, rows}
-use Rattle.log.specs.Blocks.{lengthFits, checkFits, placeFits, setupIn, recordsTo, countFits, unusedZero, layoutFits}
-use Rattle.log.specs.Log.{blockRefusal, judgedFrom, judged}
+use Rattle.judging.specs.Blocks.{lengthFits, checkFits, placeFits, setupIn, recordsTo, countFits, unusedZero, layoutFits}
+use Rattle.judging.specs.Log.{blockRefusal, judgedFrom, judged}
 use Rattle.log.specs.Records.{entries, columnFrom, column, found, blockAsked, stretch}
 use Rattle.reader.specs.Reading.{takenAt, setupAt, nexts}
 use Rattle.text.specs.Text.{digits, rowLine, rowLines, endLine, tableText, refusedLine}

@@ -3,7 +3,7 @@ use Prim.Native.Nat.{ℕ, zero, suc, _+_, _*_, _-_, _/_, _%_}
 use mathlib.Core.List.{List, [], _∷_, _++_}
 use lib.ListN.{length, take, set, replicate}
 use Rattle.rule.specs.declared.Setup.{Setup}
-use Rattle.log.specs.Log.{Verdict, accepted, refused, judged}
+use Rattle.judging.specs.Log.{Verdict, accepted, refused, judged}
 use Rattle.log.specs.declared.Found.{Found}
 use Rattle.reader.specs.declared.Taken.{Taken}
 

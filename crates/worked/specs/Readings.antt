@@ -5,7 +5,7 @@ use lib.ListN.{take, replicate}
 use Rattle.words.specs.Words.{word}
 use Rattle.rule.specs.Setups.{asked}
 use Rattle.rule.specs.declared.Setup.{Setup}
-use Rattle.log.specs.Log.{Verdict, accepted, refused, judged}
+use Rattle.judging.specs.Log.{Verdict, accepted, refused, judged}
 use Rattle.log.specs.Records.{setupOf, column, found, blockAsked, stretch}
 use Rattle.log.specs.declared.Found.{Found}
 use Rattle.log.specs.declared.Found.the-variants.{Row, End}

@@ -4,7 +4,7 @@ use native.Mathlib.Omega.{arith}
 use mathlib.Core.Path.{_≡_, sym, ap, _∙_}
 use borrow.Author.Needs.{needs}
 use denote.Ref.{now}
-use Rattle.log.specs.Log.{accepted, judged, told}
+use Rattle.judging.specs.Log.{accepted, judged, told}
 use Rattle.log.proofs.Rows.{column-most}
 use Rattle.report.proofs.Logs.{refused-small}
 use Rattle.desk.specs.Face.{verdictFace}

@@ -4,7 +4,7 @@ use native.Mathlib.Omega.{arith}
 use borrow.Author.Tests.{eq-eqb, ne-eqb, le-leb, lt-leb, lt-ltb, le-ltb}
 use denote.Ref.{now}
 use mathlib.Core.Path.{_≡_, refl, sym, ap, _∙_}
-use Rattle.log.specs.Log.{accepted, told}
+use Rattle.judging.specs.Log.{accepted, told}
 use Rattle.log.specs.Records.{blockAsked}
 use Rattle.log.proofs.Asking.{Had, asked-had, stretch-given, stretch-refused}
 use borrow.Author.Needs.{needs}

@@ -5,7 +5,7 @@ use denote.Ref.{now}
 use mathlib.Core.Path.{_≡_, refl, sym, ap, _∙_}
 use Prim.Native.Nat.{_/_}
 use lib.ListN.{length}
-use Rattle.log.specs.Log.{told}
+use Rattle.judging.specs.Log.{told}
 use Rattle.log.specs.Records.{blockAsked}
 use Rattle.log.proofs.Asking.{asked-refused}
 use borrow.Author.Needs.{needs}

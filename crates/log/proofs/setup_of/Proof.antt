@@ -5,8 +5,8 @@ use mathlib.Core.Path.{_≡_, _∙_}
 use mathlib.Core.List.{List}
 use borrow.Author.Needs.{needs}
 use Rattle.rule.specs.Setups.{asked}
-use Rattle.log.specs.Blocks.{setupIn}
-use Rattle.log.proofs.Accepted.{accepted-sized}
+use Rattle.judging.specs.Blocks.{setupIn}
+use Rattle.judging.proofs.Accepted.{accepted-sized}
 use Rattle.log.proofs.setup_of.Statement.{statement}
 use Rattle.log.proofs.setup_of.Tie as tie
 

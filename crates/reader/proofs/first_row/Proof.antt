@@ -39,7 +39,7 @@ use Rattle.reader.specs.declared.First.{First}
 use Rattle.reader.specs.declared.Opened.{Opened}
 use Rattle.reader.specs.declared.Reader.{Reader}
 use Rattle.log.specs.declared.Found.{Found}
-use Rattle.log.specs.declared.Judged.{Judged}
+use Rattle.judging.specs.declared.Judged.{Judged}
 use Rattle.reader.proofs.First as F
 use Rattle.reader.proofs.First.Laws as F′
 use Rattle.reader.proofs.Opened as O
@@ -52,8 +52,8 @@ use Rattle.walk_laws.proofs.Data.{Data, enum}
 use Rattle.reader.proofs.Take.{B, slice-of}
 use Rattle.reader.proofs.Slices as on
 use Rattle.reader.proofs.Fields as peek
-use Rattle.log.proofs.Judged as E
-use Rattle.log.proofs.Judged.Laws as E′
+use Rattle.judging.proofs.Judged as E
+use Rattle.judging.proofs.Judged.Laws as E′
 use Rattle.reader.proofs.Steps.{opened-stands}
 use Rattle.reader.proofs.open_log.Symbol as opens-def
 use Rattle.reader.proofs.open_log.Met as opens-thm

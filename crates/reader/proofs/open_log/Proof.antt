@@ -47,8 +47,8 @@ use Rattle.reader.proofs.Reader.Laws as T′
 use Rattle.walk_laws.proofs.Calling.{over}
 use Rattle.reader.proofs.Take.{B, slice-of}
 use Rattle.reader.proofs.Slices.{Own, On, Enters, Post, ended, clauses, to, goes, said, exits, by-walk}
-use Rattle.log.proofs.Judged as E
-use Rattle.log.proofs.Judged.Laws as E′
+use Rattle.judging.proofs.Judged as E
+use Rattle.judging.proofs.Judged.Laws as E′
 use Rattle.walk_laws.proofs.Data.{Data, struct, typed-at}
 use Rattle.reader.proofs.start_of.Symbol as start-def
 use Rattle.reader.proofs.start_of.Met.{met}

@@ -1,7 +1,7 @@
 -- `reader::start_of` meets its contract. Assumes nothing.
 use mathlib.Core.Path.{sym, ap, _∙_}
 use borrow.Author.Needs.{needs}
-use Rattle.log.specs.Log.{told}
+use Rattle.judging.specs.Log.{told}
 use Rattle.reader.specs.Reading.{firstBlock}
 use Rattle.reader.proofs.start_of.Statement.{statement}
 use Rattle.reader.proofs.start_of.Tie as tie

@@ -7,7 +7,7 @@ use borrow.Author.Needs.{needs}
 use borrow.Author.Tests.{leb-true, leb-false}
 use denote.Ref.{now}
 use lib.ListN.{length}
-use Rattle.log.specs.Blocks.{blocks}
+use Rattle.judging.specs.Blocks.{blocks}
 use Rattle.log.specs.Records.{askedTimes}
 use Rattle.reader.specs.Reading.{rowNumber, Reached}
 use Rattle.reader.proofs.Places.{has-row-zero, has-row-past, has-row-counted, has-row-over, block-few}

@@ -10,7 +10,7 @@ use borrow.Author.Tests.{eqb-true, eq-eqb, ne-eqb, le-leb, leb-true}
 use Rattle.lists.specs.Lists.{within}
 use Rattle.lists.proofs.Testing.{tested, equal-or, and-true, or-false, within-true, within-holds, within-below}
 use Rattle.lists.proofs.Testing.{within-above}
-use Rattle.log.specs.Blocks.{blocks, block, count, recordsTo, countFits, unusedZero, layoutFits}
+use Rattle.judging.specs.Blocks.{blocks, block, count, recordsTo, countFits, unusedZero, layoutFits}
 
 -- ---- the number of records
 

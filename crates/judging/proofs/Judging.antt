@@ -11,9 +11,9 @@ use borrow.Author.Tests.{eq-eqb, ne-eqb}
 use Rattle.lists.specs.Lists.{zeros}
 use Rattle.words.specs.Words.{word, check}
 use Rattle.rule.specs.Setups.{setupRefusal}
-use Rattle.log.specs.Blocks.{blocks, block, checkFits, placeFits, setupIn, count, recordsTo, countFits}
-use Rattle.log.specs.Blocks.{firstUnused, unusedZero, layoutFits}
-use Rattle.log.specs.Log.{accepted, refused, blockRefusal, judgedFrom}
+use Rattle.judging.specs.Blocks.{blocks, block, checkFits, placeFits, setupIn, count, recordsTo, countFits}
+use Rattle.judging.specs.Blocks.{firstUnused, unusedZero, layoutFits}
+use Rattle.judging.specs.Log.{accepted, refused, blockRefusal, judgedFrom}
 
 -- ---- the refusal of block i, by its bytes b
 

@@ -1,4 +1,4 @@
--- `log::search::judge_blocks` meets its contract. Outside, what is judged from the first block on is what is judged
+-- `judging::search::judge_blocks` meets its contract. Outside, what is judged from the first block on is what is judged
 -- from this one on; inside, the bytes from the first unused one on are as zero as those from this one on. Assumes
 -- nothing.
 use Prim.Native.Nat.{ℕ, _≤_, _<_, _+_, _*_, _-_}
@@ -16,14 +16,14 @@ use lib.Seq.{slice}
 use Rattle.lists.specs.Lists.{zeros}
 use Rattle.lists.proofs.Zeros.{zeros-slice-same, zeros-slice-other, zeros-slice-past}
 use Rattle.words.specs.Words.{word, check}
-use Rattle.log.specs.Blocks.{block, count, recordsTo, countFits, firstUnused}
-use Rattle.log.specs.Log.{refused, blockRefusal, judgedFrom}
-use Rattle.log.proofs.Blocks.{records-zero, records-full}
-use Rattle.log.proofs.Judging.{part-block, length-part, Before, Headed, refusal-check, refusal-place}
-use Rattle.log.proofs.Judging.{refusal-count, refusal-byte, refusal-setup, judged-good, judged-refused}
-use Rattle.log.proofs.Judging.{judged-end}
-use Rattle.log.proofs.search.judge_blocks.Statement.{statement}
-use Rattle.log.proofs.search.judge_blocks.Tie as tie
+use Rattle.judging.specs.Blocks.{block, count, recordsTo, countFits, firstUnused}
+use Rattle.judging.specs.Log.{refused, blockRefusal, judgedFrom}
+use Rattle.judging.proofs.Blocks.{records-zero, records-full}
+use Rattle.judging.proofs.Judging.{part-block, length-part, Before, Headed, refusal-check, refusal-place}
+use Rattle.judging.proofs.Judging.{refusal-count, refusal-byte, refusal-setup, judged-good, judged-refused}
+use Rattle.judging.proofs.Judging.{judged-end}
+use Rattle.judging.proofs.search.judge_blocks.Statement.{statement}
+use Rattle.judging.proofs.search.judge_blocks.Tie as tie
 
 abbrev Inv-bytes : tie.InvT-bytes
 Inv-bytes log blocks block base stop part at₀ at = zeros (slice at₀ 508 part) ≡ zeros (slice at 508 part)

@@ -1,9 +1,9 @@
--- `log::search::first_unused` meets its contract. Assumes nothing.
+-- `judging::search::first_unused` meets its contract. Assumes nothing.
 use native.Mathlib.Omega.{arith}
 use borrow.Author.Tests.{eq-eqb, ne-eqb, le-leb, lt-leb}
 use borrow.Author.Needs.{needs}
-use Rattle.log.proofs.search.first_unused.Statement.{statement}
-use Rattle.log.proofs.search.first_unused.Tie as tie
+use Rattle.judging.proofs.search.first_unused.Statement.{statement}
+use Rattle.judging.proofs.search.first_unused.Tie as tie
 
 returns : tie.Need-returns
 returns c = simp (eq-eqb _ 0 (c .if1 .taken))

@@ -1,10 +1,10 @@
--- `log::search::block_setup_refusal` meets its contract. Assumes nothing.
+-- `judging::search::block_setup_refusal` meets its contract. Assumes nothing.
 use native.Mathlib.Omega.{arith}
 use borrow.Author.Tests.{eq-eqb, ne-eqb, le-leb, lt-leb}
-use Rattle.log.specs.Blocks.{setupIn}
+use Rattle.judging.specs.Blocks.{setupIn}
 use borrow.Author.Needs.{needs}
-use Rattle.log.proofs.search.block_setup_refusal.Statement.{statement}
-use Rattle.log.proofs.search.block_setup_refusal.Tie as tie
+use Rattle.judging.proofs.search.block_setup_refusal.Statement.{statement}
+use Rattle.judging.proofs.search.block_setup_refusal.Tie as tie
 
 returns : tie.Need-returns
 returns c = simp (ne-eqb _ 0 (c .if1 .taken))

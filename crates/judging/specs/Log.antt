@@ -6,9 +6,9 @@ use mathlib.Core.List.{List, [], _∷_}
 use lib.Dec.{eqb}
 use Rattle.rule.specs.Refusal.{Refusal, refuse, first}
 use Rattle.rule.specs.Setups.{setupRefusal}
-use Rattle.log.specs.Blocks.{blocks, lengthFits, block, checkFits, placeFits, setupIn, layoutFits}
-use Rattle.log.specs.declared.Judged.{Judged}
-use Rattle.log.specs.declared.Judged.the-variants.{Accepted, Refused}
+use Rattle.judging.specs.Blocks.{blocks, lengthFits, block, checkFits, placeFits, setupIn, layoutFits}
+use Rattle.judging.specs.declared.Judged.{Judged}
+use Rattle.judging.specs.declared.Judged.the-variants.{Accepted, Refused}
 
 -- "A refusal gives its number, with .. the block for 31 to 33": 0 stands for the block where none is given
 pub data Verdict : Type 0 where

@@ -1,6 +1,5 @@
 -- What a log that reads says of its blocks. In order: its size; each block's refusal is none; the numbers of records;
--- its
--- setup; the words of a block are words of the log. Assumes nothing.
+-- the words of a block are words of the log. Assumes nothing.
 use Prim.Native.Nat.{ℕ, zero, suc, _+_, _*_, _-_, _/_, _%_, _≤_, _<_}
 use native.Mathlib.Omega.{arith}
 use native.Mathlib.Nat.{eq-or-lt-of-le}
@@ -8,8 +7,7 @@ use mathlib.Core.Path.{_≡_, refl, sym, ap, _∙_}
 use mathlib.Core.Bool.{Bool, true, false, cond, not, _&&_, _||_}
 use mathlib.Core.List.{List}
 use mathlib.Core.Logic.{⊎-elim}
-use lib.ListN.{length, take, drop, length-drop}
-use lib.Seq.{length-take-le}
+use lib.ListN.{length, take, drop}
 use lib.Dec.{eqb}
 use borrow.Author.Tests.{eqb-true, eq-eqb, ne-eqb}
 use Rattle.lists.specs.Lists.{within}
@@ -17,11 +15,10 @@ use Rattle.lists.proofs.Testing.{equal-or, and-true, within-true, passed-not}
 use Rattle.words.specs.Words.{word}
 use Rattle.words.proofs.Words.{word-take, word-drop}
 use Rattle.rule.specs.Setups.{setupRefusal}
-use Rattle.log.specs.Blocks.{blocks, lengthFits, block, checkFits, placeFits, setupIn, count, recordsTo}
-use Rattle.log.specs.Blocks.{countFits, unusedZero, layoutFits}
-use Rattle.log.specs.Log.{Verdict, accepted, refused, blockRefusal, judgedFrom, judged, Reads}
-use Rattle.log.specs.Records.{setupOf}
-use Rattle.log.proofs.Blocks.{Counted, count-fits, records-zero, records-more}
+use Rattle.judging.specs.Blocks.{blocks, lengthFits, block, checkFits, placeFits, setupIn, count, recordsTo}
+use Rattle.judging.specs.Blocks.{countFits, unusedZero, layoutFits}
+use Rattle.judging.specs.Log.{Verdict, accepted, refused, blockRefusal, judgedFrom, judged, Reads}
+use Rattle.judging.proofs.Blocks.{Counted, count-fits, records-zero, records-more}
 
 -- ---- no refusal is accepted
 
@@ -138,17 +135,6 @@ accepted-most log r =
       records-more log (blocks log - 1) (omega arith),
       accepted-counted log r (blocks log - 1) (omega arith) (omega arith) .most,
     ))
-
--- ---- the setup
-
-pub accepted-setup : (log : List ℕ) → Reads log → setupRefusal (setupOf log) ≡ 0
-accepted-setup log r = accepted-sound log r 0 (accepted-sized log r .some) .setup
-
-pub accepted-priority : (log : List ℕ) → Reads log → length (setupOf log .priority) ≡ 32
-unfolding setupIn
-accepted-priority log r =
-    length-take-le 32 (drop 16 (block log 0))
-    (rw (length-drop 16 (block log 0), length-take-le 512 log (omega (arith, accepted-sized log r))) (omega arith))
 
 -- ---- words
 

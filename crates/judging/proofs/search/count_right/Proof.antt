@@ -1,13 +1,13 @@
--- `log::search::count_right` meets its contract. Assumes nothing.
+-- `judging::search::count_right` meets its contract. Assumes nothing.
 use native.Mathlib.Omega.{arith}
 use borrow.Author.Tests.{eq-eqb, ne-eqb, le-leb, lt-leb}
 use denote.Ref.{now}
-use Rattle.log.proofs.Blocks.{count-none, count-above, count-inner, count-last}
+use Rattle.judging.proofs.Blocks.{count-none, count-above, count-inner, count-last}
 use mathlib.Core.Path.{_≡_, sym, _∙_}
 use Prim.Native.Nat.{_*_, _-_}
 use borrow.Author.Needs.{needs}
-use Rattle.log.proofs.search.count_right.Statement.{statement}
-use Rattle.log.proofs.search.count_right.Tie as tie
+use Rattle.judging.proofs.search.count_right.Statement.{statement}
+use Rattle.judging.proofs.search.count_right.Tie as tie
 
 returns : tie.Need-returns
 returns c = simp (eq-eqb _ 0 (c .if1 .taken))

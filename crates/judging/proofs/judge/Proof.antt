@@ -1,14 +1,14 @@
--- `log::judge` meets its contract: the length, then the blocks. Assumes nothing.
+-- `judging::judge` meets its contract: the length, then the blocks. Assumes nothing.
 use native.Mathlib.Omega.{arith}
 use borrow.Author.Tests.{eq-eqb, ne-eqb, le-leb, lt-leb, lt-ltb, le-ltb}
 use denote.Ref.{now}
 use Prim.Native.Nat.{_/_, _%_}
 use lib.ListN.{length}
-use Rattle.log.specs.Blocks.{lengthFits}
-use Rattle.log.specs.Log.{judged}
+use Rattle.judging.specs.Blocks.{lengthFits}
+use Rattle.judging.specs.Log.{judged}
 use borrow.Author.Needs.{needs}
-use Rattle.log.proofs.judge.Statement.{statement}
-use Rattle.log.proofs.judge.Tie as tie
+use Rattle.judging.proofs.judge.Statement.{statement}
+use Rattle.judging.proofs.judge.Tie as tie
 
 returns : tie.Need-returns
 unfolding judged lengthFits
