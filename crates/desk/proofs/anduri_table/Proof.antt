@@ -1,7 +1,7 @@
 -- `desk::anduri_table` meets its contract: the table's answer, as numbers, and its column. Assumes nothing.
 use mathlib.Core.Path.{ap, _∙_}
 use borrow.Author.Needs.{needs}
-use Rattle.desk.specs.Face.{outcomeFace}
+use Rattle.face.specs.Face.{outcomeFace}
 use Rattle.desk.proofs.anduri_table.Statement.{statement}
 use Rattle.desk.proofs.anduri_table.Tie as tie
 

@@ -12,14 +12,14 @@ use Rattle.replay.specs.Answers.{callNumber}
 use Rattle.replay.specs.declared.calls.Moved.{Moved}
 use Rattle.walk_laws.proofs.Answered.{Answered}
 use Rattle.walk_laws.proofs.Data.{Data, number, struct}
-use Rattle.desk.specs.Face.{moveFace}
-use Rattle.desk.specs.declared.Move.{Move}
-use Rattle.desk.proofs.Move as M
-use Rattle.desk.proofs.Move.Laws as M′
-use Rattle.desk.proofs.Read as R
-use Rattle.desk.proofs.Read.Laws as R′
-use Rattle.desk.proofs.NextDone as N
-use Rattle.desk.proofs.NextDone.Laws as N′
+use Rattle.face.specs.Face.{moveFace}
+use Rattle.face.specs.declared.Move.{Move}
+use Rattle.face.proofs.Move as M
+use Rattle.face.proofs.Move.Laws as M′
+use Rattle.face.proofs.Read as R
+use Rattle.face.proofs.Read.Laws as R′
+use Rattle.face.proofs.NextDone as N
+use Rattle.face.proofs.NextDone.Laws as N′
 
 pub promised-face : {run : Run} {c : Call} (m : Moved) {r : Move}
     → Promised run c (callNumber (m .answer)) (m .run) → r ≡ moveFace m → Promised run c (r .refusal) (r .run)
