@@ -1,37 +1,24 @@
 // The calls and readings on a run that a caller keeps: each promises of the run before and after what the call by value
 // does, and a refused call leaves the very run.
-use crate::Move;
-use crate::NextDone;
-use crate::Read;
+use face::NextDone;
+use face::Read;
 use rule::Run;
 use rule::Setup;
-use tracker::start::restarted;
 ghost use mathlib.Core.Path.{_≡_};
 ghost use Rattle.lists.specs.Lists.{total};
 ghost use Rattle.rule.specs.Calls.{request, advance, drain};
 ghost use Rattle.rule.specs.Readings.{owedOf, givenOf, completedOf, nextDone};
 ghost use Rattle.rule.specs.View.{view, MadeRun, Promised};
 ghost use Rattle.tracker.specs.Restarted.{Restarted};
-ghost use Rattle.desk.specs.Face.{readFace, nextFace};
+ghost use Rattle.face.specs.Face.{readFace, nextFace};
 
 // ---- calls
-
-// The fresh run of the setup; a refused setup gives back the run as it was.
-fn set_up_anew(run: Run, setup: Setup) -> Move
-    ensures { λ r. ⌜ Restarted run setup (r .refusal) (r .run) ⌝ }
-{
-    let start = restarted(run, setup);
-    let answer = start.answer;
-    let refusal = crate::setup_number(answer);
-    let run = start.run;
-    Move { refusal, run }
-}
 
 #[no_mangle]
 pub extern "C" fn anduri_setup_in(run: &mut Run, setup: Setup) -> u32
     ensures { λ r. ⌜ Restarted (now (run .entry)) setup r (now (run .exit)) ⌝ }
 {
-    let fresh = set_up_anew(*run, setup);
+    let fresh = face::set_up_anew(*run, setup);
     *run = fresh.run;
     fresh.refusal
 }

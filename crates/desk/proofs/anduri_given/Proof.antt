@@ -1,7 +1,7 @@
 -- `desk::anduri_given` meets its contract: the by-value reading, as numbers. Assumes nothing.
 use mathlib.Core.Path.{ap, _∙_}
 use borrow.Author.Needs.{needs}
-use Rattle.desk.specs.Face.{readFace}
+use Rattle.face.specs.Face.{readFace}
 use Rattle.desk.proofs.anduri_given.Statement.{statement}
 use Rattle.desk.proofs.anduri_given.Tie as tie
 

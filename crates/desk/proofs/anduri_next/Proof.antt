@@ -1,7 +1,7 @@
 -- `desk::anduri_next` meets its contract: the by-value reading, as numbers. Assumes nothing.
 use mathlib.Core.Path.{ap, _∙_}
 use borrow.Author.Needs.{needs}
-use Rattle.desk.specs.Face.{nextFace}
+use Rattle.face.specs.Face.{nextFace}
 use Rattle.desk.proofs.anduri_next.Statement.{statement}
 use Rattle.desk.proofs.anduri_next.Tie as tie
 

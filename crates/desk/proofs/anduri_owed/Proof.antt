@@ -1,7 +1,7 @@
 -- `desk::anduri_owed` meets its contract: the by-value reading, as numbers. Assumes nothing.
 use mathlib.Core.Path.{ap, _∙_}
 use borrow.Author.Needs.{needs}
-use Rattle.desk.specs.Face.{readFace}
+use Rattle.face.specs.Face.{readFace}
 use Rattle.desk.proofs.anduri_owed.Statement.{statement}
 use Rattle.desk.proofs.anduri_owed.Tie as tie
 

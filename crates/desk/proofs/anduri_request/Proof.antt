@@ -1,6 +1,6 @@
 -- `desk::anduri_request` meets its contract: the by-value call, with its number. Assumes nothing.
 use borrow.Author.Needs.{needs}
-use Rattle.desk.proofs.Faces.{promised-face}
+use Rattle.face.proofs.Faces.{promised-face}
 use Rattle.desk.proofs.anduri_request.Statement.{statement}
 use Rattle.desk.proofs.anduri_request.Tie as tie
 

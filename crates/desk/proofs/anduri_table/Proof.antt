@@ -1,14 +1,11 @@
 -- `desk::anduri_table` meets its contract: the table's answer, as numbers, and its column. Assumes nothing.
-use mathlib.Core.Path.{ap, _∙_}
 use borrow.Author.Needs.{needs}
-use Rattle.desk.specs.Face.{outcomeFace}
+use Rattle.face.proofs.Faces.{answers-face}
 use Rattle.desk.proofs.anduri_table.Statement.{statement}
 use Rattle.desk.proofs.anduri_table.Tie as tie
 
 returns : tie.Need-returns
-returns c =
-    let a = c .before .before .before .table .ensures in
-    record { answer = c .outcome-of .ensures ∙ ap outcomeFace (a .answer); column = a .column }
+returns c = answers-face (c .before .before .before .table .ensures) (c .outcome-of .ensures)
 
 pub anduri-table-spec : {M : Type 1} → statement M
 anduri-table-spec =

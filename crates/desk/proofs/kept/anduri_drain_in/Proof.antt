@@ -4,7 +4,7 @@ use contract.Monad.{fact}
 use Rattle.rule.specs.Calls.{drain}
 use Rattle.rule.specs.View.{MadeRun, Promised}
 use Rattle.tracker.proofs.Lent.{moves}
-use Rattle.desk.proofs.Faces.{move-parts}
+use Rattle.face.proofs.Faces.{move-parts}
 use Rattle.desk.proofs.anduri_drain.Symbol as by-value
 use Rattle.desk.proofs.anduri_drain.Met.{met}
 use Rattle.desk.proofs.kept.anduri_drain_in.Key.{name}

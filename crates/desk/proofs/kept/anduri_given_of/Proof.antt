@@ -4,11 +4,11 @@ use mathlib.Core.List.{[], _∷_}
 use mir.Syntax.{w32}
 use contract.Monad.{fact}
 use Rattle.rule.specs.Readings.{givenOf}
-use Rattle.desk.specs.Face.{readFace}
+use Rattle.face.specs.Face.{readFace}
 use Rattle.rule.specs.View.{view, MadeRun}
 use Rattle.walk_laws.proofs.Data.{number}
 use Rattle.tracker.proofs.Lent.{reads}
-use Rattle.desk.proofs.Faces.{read}
+use Rattle.face.proofs.Faces.{read}
 use Rattle.desk.proofs.anduri_given.Symbol as by-value
 use Rattle.desk.proofs.anduri_given.Met.{met}
 use Rattle.desk.proofs.kept.anduri_given_of.Key.{name}

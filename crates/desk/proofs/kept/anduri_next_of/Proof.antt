@@ -3,10 +3,10 @@ use mathlib.Core.Path.{_≡_}
 use mathlib.Core.List.{[]}
 use contract.Monad.{fact}
 use Rattle.rule.specs.Readings.{nextDone}
-use Rattle.desk.specs.Face.{nextFace}
+use Rattle.face.specs.Face.{nextFace}
 use Rattle.rule.specs.View.{view, MadeRun}
 use Rattle.tracker.proofs.Lent.{reads}
-use Rattle.desk.proofs.Faces.{next-done}
+use Rattle.face.proofs.Faces.{next-done}
 use Rattle.desk.proofs.anduri_next.Symbol as by-value
 use Rattle.desk.proofs.anduri_next.Met.{met}
 use Rattle.desk.proofs.kept.anduri_next_of.Key.{name}

@@ -6,7 +6,7 @@ use Rattle.rule.specs.Calls.{request}
 use Rattle.rule.specs.View.{MadeRun, Promised}
 use Rattle.walk_laws.proofs.Data.{number}
 use Rattle.tracker.proofs.Lent.{moves}
-use Rattle.desk.proofs.Faces.{move-parts}
+use Rattle.face.proofs.Faces.{move-parts}
 use Rattle.desk.proofs.anduri_request.Symbol as by-value
 use Rattle.desk.proofs.anduri_request.Met.{met}
 use Rattle.desk.proofs.kept.anduri_request_in.Key.{name}

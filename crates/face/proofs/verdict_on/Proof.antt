@@ -1,4 +1,4 @@
--- `desk::anduri_judge` meets its contract: the verdict, and the number of records of a log that reads. Assumes nothing.
+-- `face::verdict_on` meets its contract: the verdict, and the number of records of a log that reads. Assumes nothing.
 use Prim.Native.Nat.{ℕ}
 use native.Mathlib.Omega.{arith}
 use mathlib.Core.Path.{_≡_, sym, ap, _∙_}
@@ -7,9 +7,9 @@ use denote.Ref.{now}
 use Rattle.judging.specs.Log.{accepted, judged, told}
 use Rattle.log.proofs.Rows.{column-most}
 use Rattle.report.proofs.Logs.{refused-small}
-use Rattle.desk.specs.Face.{verdictFace}
-use Rattle.desk.proofs.anduri_judge.Statement.{statement}
-use Rattle.desk.proofs.anduri_judge.Tie as tie
+use Rattle.face.specs.Face.{verdictFace}
+use Rattle.face.proofs.verdict_on.Statement.{statement}
+use Rattle.face.proofs.verdict_on.Tie as tie
 
 -- what the log was judged to be
 reads : (c : tie.After-enum-told) → judged (now (c .before .before .before .before .args .log)) ≡ accepted
@@ -35,8 +35,8 @@ returns-2 : tie.Need-returns-2
 returns-2 c =
     sym (ap (verdictFace (now (c .before .before .before .before .before .args .log))) (sym (c .before .before .before .judge .ensures) ∙ ap told (c .before .verdict .given .1)))
 
-pub anduri-judge-spec : {M : Type 1} → statement M
-anduri-judge-spec =
+pub verdict-on-spec : {M : Type 1} → statement M
+verdict-on-spec =
     tie.close
     (tie.spec
     (λ c κs. search needs)

@@ -1,29 +1,39 @@
--- What the proofs of the C face share. In order: a promise carried over to the face's numbers; its answers as plain
--- data. Assumes nothing.
-use mathlib.Core.Path.{_≡_, refl, sym, subst}
+-- What the proofs of the C face share. In order: the promises of a call and of a table carried over to the face's
+-- numbers; its answers as plain data. Assumes nothing.
+use Prim.Native.Nat.{ℕ}
+use mathlib.Core.Path.{_≡_, refl, sym, ap, _∙_, subst}
+use mathlib.Core.List.{List}
 use mir.Syntax.{w32}
 use denote.Struct.Laws as LL
 use Rattle.rule.specs.Calls.{Call}
+use Rattle.rule.specs.Table as rule
 use Rattle.rule.specs.View.{Promised}
 use Rattle.rule.specs.declared.Run.{Run}
 use Rattle.rule.proofs.Run as T
 use Rattle.rule.proofs.Run.Laws as T′
 use Rattle.replay.specs.Answers.{callNumber}
 use Rattle.replay.specs.declared.calls.Moved.{Moved}
+use Rattle.table.specs.Answers.{Answers}
+use Rattle.table.specs.declared.TableAnswer.{TableAnswer}
 use Rattle.walk_laws.proofs.Answered.{Answered}
 use Rattle.walk_laws.proofs.Data.{Data, number, struct}
-use Rattle.desk.specs.Face.{moveFace}
-use Rattle.desk.specs.declared.Move.{Move}
-use Rattle.desk.proofs.Move as M
-use Rattle.desk.proofs.Move.Laws as M′
-use Rattle.desk.proofs.Read as R
-use Rattle.desk.proofs.Read.Laws as R′
-use Rattle.desk.proofs.NextDone as N
-use Rattle.desk.proofs.NextDone.Laws as N′
+use Rattle.face.specs.Face.{moveFace, outcomeFace, FaceAnswers}
+use Rattle.face.specs.declared.Move.{Move}
+use Rattle.face.specs.declared.Outcome.{Outcome}
+use Rattle.face.proofs.Move as M
+use Rattle.face.proofs.Move.Laws as M′
+use Rattle.face.proofs.Read as R
+use Rattle.face.proofs.Read.Laws as R′
+use Rattle.face.proofs.NextDone as N
+use Rattle.face.proofs.NextDone.Laws as N′
 
 pub promised-face : {run : Run} {c : Call} (m : Moved) {r : Move}
     → Promised run c (callNumber (m .answer)) (m .run) → r ≡ moveFace m → Promised run c (r .refusal) (r .run)
 promised-face {run} {c} m p e = subst (λ (x : Move). Promised run c (x .refusal) (x .run)) (sym e) p
+
+pub answers-face : {o : rule.Outcome} {before after : List ℕ} {a : TableAnswer} {r : Outcome}
+    → Answers o before a after → r ≡ outcomeFace a → FaceAnswers o before r after
+answers-face p e = record { answer = e ∙ ap outcomeFace (p .answer); column = p .column }
 
 abbrev pub read : Data
 read = struct R.the-type R′.the-laws R′.the-plain (λ x. tt) (λ x f. refl)

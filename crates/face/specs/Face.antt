@@ -14,11 +14,11 @@ use Rattle.replay.specs.declared.calls.Moved.{Moved}
 use Rattle.table.specs.Answers.{answerOf}
 use Rattle.table.specs.declared.TableAnswer.{TableAnswer}
 use Rattle.table.specs.declared.TableAnswer.the-variants.{Finished, Refused}
-use Rattle.desk.specs.declared.Move.{Move}
-use Rattle.desk.specs.declared.Read.{Read}
-use Rattle.desk.specs.declared.NextDone.{NextDone}
-use Rattle.desk.specs.declared.Outcome.{Outcome}
-use Rattle.desk.specs.declared.Verdict.{Verdict}
+use Rattle.face.specs.declared.Move.{Move}
+use Rattle.face.specs.declared.Read.{Read}
+use Rattle.face.specs.declared.NextDone.{NextDone}
+use Rattle.face.specs.declared.Outcome.{Outcome}
+use Rattle.face.specs.declared.Verdict.{Verdict}
 
 -- a call: its number, 0 where it is accepted, and the run afterwards
 abbrev pub moveFace : Moved → Move

@@ -1,11 +1,11 @@
--- `desk::ticks_read` meets its contract, case by case. Assumes nothing.
+-- `face::ticks_read` meets its contract, case by case. Assumes nothing.
 use mathlib.Core.Path.{sym, ap}
 use borrow.Author.Needs.{needs}
 use Rattle.replay.specs.Answers.{ticksTold}
 use Rattle.replay.specs.declared.readings.TaskTicks.{TaskTicks}
-use Rattle.desk.specs.Face.{readFace}
-use Rattle.desk.proofs.ticks_read.Statement.{statement}
-use Rattle.desk.proofs.ticks_read.Tie as tie
+use Rattle.face.specs.Face.{readFace}
+use Rattle.face.proofs.ticks_read.Statement.{statement}
+use Rattle.face.proofs.ticks_read.Tie as tie
 
 returns : tie.Need-returns
 returns c = sym (ap (λ (x : TaskTicks). readFace (ticksTold x)) (c .before .ticks .given .1))

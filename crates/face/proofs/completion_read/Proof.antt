@@ -1,11 +1,11 @@
--- `desk::completion_read` meets its contract, case by case. Assumes nothing.
+-- `face::completion_read` meets its contract, case by case. Assumes nothing.
 use mathlib.Core.Path.{sym, ap}
 use borrow.Author.Needs.{needs}
 use Rattle.replay.specs.Answers.{completionTold}
 use Rattle.replay.specs.declared.readings.Completion.{Completion}
-use Rattle.desk.specs.Face.{readFace}
-use Rattle.desk.proofs.completion_read.Statement.{statement}
-use Rattle.desk.proofs.completion_read.Tie as tie
+use Rattle.face.specs.Face.{readFace}
+use Rattle.face.proofs.completion_read.Statement.{statement}
+use Rattle.face.proofs.completion_read.Tie as tie
 
 returns : tie.Need-returns
 returns c = sym (ap (λ (x : Completion). readFace (completionTold x)) (c .before .completion .given .1))

@@ -1,9 +1,9 @@
--- `desk::outcome_of` meets its contract, case by case. Assumes nothing.
+-- `face::outcome_of` meets its contract, case by case. Assumes nothing.
 use mathlib.Core.Path.{sym, ap}
 use borrow.Author.Needs.{needs}
-use Rattle.desk.specs.Face.{outcomeFace}
-use Rattle.desk.proofs.outcome_of.Statement.{statement}
-use Rattle.desk.proofs.outcome_of.Tie as tie
+use Rattle.face.specs.Face.{outcomeFace}
+use Rattle.face.proofs.outcome_of.Statement.{statement}
+use Rattle.face.proofs.outcome_of.Tie as tie
 
 returns : tie.Need-returns
 returns c = sym (ap outcomeFace (c .before .answer .given .1))

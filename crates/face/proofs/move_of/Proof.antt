@@ -1,9 +1,9 @@
--- `desk::move_of` meets its contract: the answer's number beside the run. Assumes nothing.
+-- `face::move_of` meets its contract: the answer's number beside the run. Assumes nothing.
 use Prim.Native.Nat.{ℕ}
 use mathlib.Core.Path.{ap}
 use borrow.Author.Needs.{needs}
-use Rattle.desk.proofs.move_of.Statement.{statement}
-use Rattle.desk.proofs.move_of.Tie as tie
+use Rattle.face.proofs.move_of.Statement.{statement}
+use Rattle.face.proofs.move_of.Tie as tie
 
 returns : tie.Need-returns
 returns c = ap (λ (n : ℕ). record { refusal = n; run = c .before .before .args .moved .run }) (c .before .call-number .ensures)

@@ -1,11 +1,11 @@
--- `desk::next_read` meets its contract, case by case. Assumes nothing.
+-- `face::next_read` meets its contract, case by case. Assumes nothing.
 use mathlib.Core.Path.{sym, ap}
 use borrow.Author.Needs.{needs}
 use Rattle.replay.specs.Answers.{nextTold}
 use Rattle.replay.specs.declared.readings.Next.{Next}
-use Rattle.desk.specs.Face.{nextFace}
-use Rattle.desk.proofs.next_read.Statement.{statement}
-use Rattle.desk.proofs.next_read.Tie as tie
+use Rattle.face.specs.Face.{nextFace}
+use Rattle.face.proofs.next_read.Statement.{statement}
+use Rattle.face.proofs.next_read.Tie as tie
 
 returns : tie.Need-returns
 returns c = sym (ap (λ (x : Next). nextFace (nextTold x)) (c .before .next .given .1))

@@ -1,0 +1,172 @@
+// The answers as the C face tells them: plain numbers, 0 for what does not apply. No function here is exported.
+use judging::Judged;
+use replay::calls::CallAnswer;
+use replay::calls::Moved;
+use replay::readings::Completion;
+use replay::readings::Next;
+use replay::readings::TaskTicks;
+use replay::start::SetupAnswer;
+use rule::Run;
+use rule::Setup;
+use table::TableAnswer;
+use tracker::start::restarted;
+ghost use mathlib.Core.Path.{_≡_};
+ghost use Rattle.judging.specs.Log.{judged};
+ghost use Rattle.replay.specs.Answers.{setupNumber, callNumber, ticksTold, completionTold, nextTold};
+ghost use Rattle.tracker.specs.Restarted.{Restarted};
+ghost use Rattle.face.specs.Face.{moveFace, readFace, nextFace, outcomeFace, verdictFace};
+
+#[repr(C)]
+pub struct Move {
+    pub refusal: u32,
+    pub run: Run,
+}
+
+#[repr(C)]
+pub struct Read {
+    pub refusal: u32,
+    pub value: u32,
+}
+
+#[repr(C)]
+pub struct NextDone {
+    pub task: u32,
+    pub at: u32,
+}
+
+#[repr(C)]
+pub struct Outcome {
+    pub refusal: u32,
+    pub place: u32,
+    pub end: u32,
+}
+
+#[repr(C)]
+pub struct Verdict {
+    pub refusal: u32,
+    pub place: u32,
+    pub records: u32,
+}
+
+// ---- calls
+
+pub fn setup_number(answer: SetupAnswer) -> u32
+    ensures { λ r. ⌜ r ≡ setupNumber answer ⌝ }
+{
+    match answer {
+        SetupAnswer::Accepted => 0,
+        SetupAnswer::WrongPolicy => 1,
+        SetupAnswer::WrongCount => 2,
+        SetupAnswer::WrongSlice => 3,
+        SetupAnswer::WrongPriorities => 4,
+    }
+}
+
+pub fn call_number(answer: CallAnswer) -> u32
+    ensures { λ r. ⌜ r ≡ callNumber answer ⌝ }
+{
+    match answer {
+        CallAnswer::Accepted => 0,
+        CallAnswer::TimePastLimit => 10,
+        CallAnswer::TimeBeforeClock => 11,
+        CallAnswer::NoSuchTask => 12,
+        CallAnswer::WrongAmount => 13,
+        CallAnswer::StillOpen => 14,
+    }
+}
+
+pub fn move_of(moved: Moved) -> Move
+    ensures { λ r. ⌜ r ≡ moveFace moved ⌝ }
+{
+    let answer = moved.answer;
+    let refusal = call_number(answer);
+    let run = moved.run;
+    Move { refusal, run }
+}
+
+// The fresh run of the setup; a refused setup gives back the run as it was.
+pub fn set_up_anew(run: Run, setup: Setup) -> Move
+    ensures { λ r. ⌜ Restarted run setup (r .refusal) (r .run) ⌝ }
+{
+    let start = restarted(run, setup);
+    let answer = start.answer;
+    let refusal = setup_number(answer);
+    let run = start.run;
+    Move { refusal, run }
+}
+
+// ---- readings
+
+pub fn ticks_read(ticks: TaskTicks) -> Read
+    ensures { λ r. ⌜ r ≡ readFace (ticksTold ticks) ⌝ }
+{
+    match ticks {
+        TaskTicks::Ticks(value) => Read { refusal: 0, value },
+        TaskTicks::NoSuchTask => Read {
+            refusal: 12,
+            value: 0,
+        },
+    }
+}
+
+pub fn completion_read(completion: Completion) -> Read
+    ensures { λ r. ⌜ r ≡ readFace (completionTold completion) ⌝ }
+{
+    match completion {
+        Completion::At(value) => Read { refusal: 0, value },
+        Completion::Never => Read {
+            refusal: 0,
+            value: 0,
+        },
+        Completion::NoSuchTask => Read {
+            refusal: 12,
+            value: 0,
+        },
+    }
+}
+
+pub fn next_read(next: Next) -> NextDone
+    ensures { λ r. ⌜ r ≡ nextFace (nextTold next) ⌝ }
+{
+    match next {
+        Next::Done(task, at) => NextDone { task, at },
+        Next::Nothing => NextDone { task: 0, at: 0 },
+    }
+}
+
+// ---- tables and logs
+
+pub fn outcome_of(answer: TableAnswer) -> Outcome
+    ensures { λ r. ⌜ r ≡ outcomeFace answer ⌝ }
+{
+    match answer {
+        TableAnswer::Finished(end) => Outcome {
+            refusal: 0,
+            place: 0,
+            end,
+        },
+        TableAnswer::Refused(refusal, place) => Outcome {
+            refusal,
+            place,
+            end: 0,
+        },
+    }
+}
+
+pub fn verdict_on(log: &[u8]) -> Verdict
+    ensures { λ r. ⌜ r ≡ verdictFace (now (log .entry)) (judged (now (log .entry))) ⌝ }
+{
+    let verdict = judging::judge(log);
+    match verdict {
+        Judged::Accepted => Verdict {
+            refusal: 0,
+            place: 0,
+            records: log::record_count(log) as u32,
+        },
+        Judged::Refused { number, block } => Verdict {
+            refusal: number,
+            place: block as u32,
+            records: 0,
+        },
+    }
+}
