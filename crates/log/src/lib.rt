@@ -75,12 +75,13 @@ pub fn setup_of(log: &[u8]) -> Setup
     ensures { λ r. ⌜ r ≡ setupOf (now (log .entry)) ⌝ }
 {
     let first = &log[0..512];
-    setups::setup_of(
+    let judged = setups::judged_setup(
         word_at(first, 4),
         word_at(first, 8),
         word_at(first, 12),
         &first[16..48],
-    )
+    );
+    judged.setup
 }
 
 // How many records an accepted log has.

@@ -2,7 +2,7 @@
 use rule::Run;
 ghost use mathlib.Core.Path.{_≡_};
 ghost use Prim.Native.Nat.{_≤_};
-ghost use Rattle.rule.specs.Setups.{asked, setupRefusal, plain};
+ghost use Rattle.rule.specs.Setups.{asked};
 ghost use Rattle.rule.specs.State.{fresh};
 ghost use Rattle.rule.specs.View.{Shows, Started};
 ghost use Rattle.replay.specs.Answers.{setupNumber};
@@ -57,37 +57,13 @@ fn fresh_run(setup: rule::Setup) -> Run
     }
 }
 
-// The fresh run of a setup that is accepted.
-fn accepted_run(policy: u32, count: u32, slice: u32, priorities: &[u8]) -> Run
-    requires { ⌜ setupRefusal (asked policy count slice (now priorities)) ≡ 0 ⌝ }
-    ensures { λ r. ⌜ Shows r (fresh (asked policy count slice (now (priorities .entry)))) ⌝ }
-{
-    fresh_run(setups::setup_of(policy, count, slice, priorities))
-}
-
-// The run of a refused setup: priority, one task.
-fn plain_run() -> Run
-    ensures { λ r. ⌜ Shows r (fresh plain) ⌝ }
-{
-    fresh_run(rule::Setup {
-        policy: 1,
-        count: 1,
-        slice: 0,
-        priority: [0; 32],
-    })
-}
-
 // A fresh run of the setup; a refused setup gives the fresh run of one plain setup. Any numbers and any length of
 // priorities are taken.
 pub fn setup(policy: u32, count: u32, slice: u32, priorities: &[u8]) -> Start
     ensures { λ r. ⌜ Started (asked policy count slice (now (priorities .entry))) (setupNumber (r .answer)) (r .run) ⌝ }
 {
-    let refusal = setups::setup_refusal(policy, count, slice, priorities);
-    let answer = answer_of(refusal);
-    if refusal != 0 {
-        let run = plain_run();
-        return Start { answer, run };
-    }
-    let run = accepted_run(policy, count, slice, priorities);
+    let judged = setups::judged_setup(policy, count, slice, priorities);
+    let answer = answer_of(judged.refusal);
+    let run = fresh_run(judged.setup);
     Start { answer, run }
 }

@@ -189,7 +189,8 @@ pub fn table(
 ) -> TableAnswer
     ensures { λ r. ⌜ Answers (table.table (asked policy count slice (now (priorities .entry))) (now (times .entry)) (now (tasks .entry)) (now (amounts .entry)) (length (now (result .entry)))) (now (result .entry)) r (now (result .exit)) ⌝ }
 {
-    let wrong = setups::setup_refusal(policy, count, slice, priorities);
+    let judged = setups::judged_setup(policy, count, slice, priorities);
+    let wrong = judged.refusal;
     if wrong != 0 {
         return TableAnswer::Refused(wrong, 0);
     }
@@ -197,6 +198,5 @@ pub fn table(
     if misfit != 0 {
         return TableAnswer::Refused(misfit, 0);
     }
-    let setup = setups::setup_of(policy, count, slice, priorities);
-    run_table(setup, times, tasks, amounts, result)
+    run_table(judged.setup, times, tasks, amounts, result)
 }

@@ -4,7 +4,7 @@ use borrow.Author.Needs.{needs}
 use denote.Ref.{now}
 use Rattle.rule.specs.Setups.{asked, setupRefusal}
 use Rattle.rule.specs.declared.Setup.{Setup}
-use Rattle.laws.proofs.Refusals.{setup-taken}
+use Rattle.setups.proofs.Judging.{judged-accepted}
 use Rattle.table.proofs.Columns.{table-misset, table-misfit, table-runs}
 use Rattle.table.proofs.table.Statement.{statement}
 use Rattle.table.proofs.table.Tie as tie
@@ -20,15 +20,15 @@ abbrev wanted : tie.Start → Setup
 wanted c = asked (c .args .policy) (c .args .count) (c .args .slice) (now (c .args .priorities))
 
 setup-fits : (c : tie.Else1) → setupRefusal (wanted (start c)) ≡ 0
-setup-fits c = sym (c .before .setup-refusal .ensures) ∙ c .if1 .left
+setup-fits c = sym (c .before .judged-setup .ensures .number) ∙ c .if1 .left
 
-setup-refusal-requires : tie.Need-setup-refusal-requires
-setup-refusal-requires c κs = search needs
+judged-setup-requires : tie.Need-judged-setup-requires
+judged-setup-requires c κs = search needs
 
 returns : tie.Need-returns
 returns c =
     let s = c .before .before .before .before .before .before .before in
-    table-misset (wanted s) _ _ _ _ _ (c .before .setup-refusal .ensures) (c .if1 .taken)
+    table-misset (wanted s) _ _ _ _ _ (c .before .judged-setup .ensures .number) (c .if1 .taken)
 
 column-refusal-requires : tie.Need-column-refusal-requires
 column-refusal-requires c κs = search needs
@@ -38,13 +38,14 @@ returns-2 c =
     let one = c .before .before in
     table-misfit (wanted (start one)) _ _ _ _ _ (setup-fits one) (c .before .column-refusal .ensures) (c .if2 .taken)
 
-setup-of-requires : tie.Need-setup-of-requires
-setup-of-requires c κs = setup-taken _ (setup-fits (past1 c)) .bytes
+-- past both tests the setup is what was asked for
+setup-asked : (c : tie.Else2) → past1 c .before .judged-setup .result .setup ≡ wanted (start (past1 c))
+setup-asked c = judged-accepted (past1 c .before .judged-setup .ensures) (setup-fits (past1 c))
 
 run-table-requires : tie.Need-run-table-requires
 run-table-requires c κs =
-    let two = c .before .before in (
-      subst (λ (p : Setup). setupRefusal p ≡ 0) (sym (c .before .setup-of .ensures)) (setup-fits (past1 two)),
+    let two = c .before in (
+      subst (λ (p : Setup). setupRefusal p ≡ 0) (sym (setup-asked two)) (setup-fits (past1 two)),
       sym (two .before .column-refusal .ensures) ∙ two .if2 .left,
     )
 
@@ -53,21 +54,20 @@ same-length c = search needs
 
 returns-3 : tie.Need-returns-3
 returns-3 c =
-    let two = c .before .before .before .before .before in
+    let two = c .before .before .before .before in
     table-runs (wanted (start (past1 two))) _ _ _ _ (setup-fits (past1 two))
     (sym (two .before .column-refusal .ensures) ∙ two .if2 .left)
-    (c .before .before .before .before .setup-of .ensures)
+    (setup-asked two)
     (c .before .before .run-table .ensures)
 
 pub table-spec : {M : Type 1} → statement M
 table-spec =
     tie.close
     (tie.spec
-    setup-refusal-requires
+    judged-setup-requires
     returns
     column-refusal-requires
     returns-2
-    setup-of-requires
     run-table-requires
     same-length
     returns-3)
