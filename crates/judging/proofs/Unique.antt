@@ -117,6 +117,3 @@ told-equal (Refused n i) (Refused m j) e = cc
 
 pub told-determined : (v : Verdict) → Determined (λ (r : Judged). told r ≡ v)
 told-determined v x y p q = told-equal x y (p ∙ sym q)
-
-pub equal-determined {ℓ} : {A : Type ℓ} (x : A) → Determined (λ (r : A). r ≡ x)
-equal-determined x r s p q = p ∙ sym q
