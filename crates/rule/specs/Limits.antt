@@ -2,7 +2,7 @@
 -- comparison or order changes a case. In order: setups, requests and advances, what a refusal leaves. Assumes nothing.
 use Prim.Native.Nat.{ℕ, _-_}
 use mathlib.Core.List.{List, [], _∷_, _++_}
-use lib.ListN.{replicate}
+use lib.ListN.{length, replicate}
 use Rattle.lists.specs.Lists.{at}
 use Rattle.rule.specs.Setups.{asked, setupRefusal, plain}
 use Rattle.rule.specs.State.{State, fresh}
@@ -105,7 +105,9 @@ left =
     leaves (oneThenIdle (robin 2 1) .used) 0 ∷ leaves (at (oneThenIdle (robin 2 1) .given) 0) 1
     ∷ leaves (at (oneThenIdle (robin 2 1) .done) 0) 3 ∷ leaves (oneThenIdle (robin 2 1) .idle) 9
     ∷ leaves (call (calls (fresh plain) (request 0 0 5 ∷ [])) (advance 2) .used) 0
-    ∷ leaves (setupRefusal plain) 0
+    ∷ leaves (setupRefusal plain) 0 ∷ leaves (plain .count) 1
+    -- one entry for each of the 32 tasks
+    ∷ leaves (length (fresh plain .owed)) 32 ∷ leaves (length (fresh plain .given)) 32 ∷ leaves (length (fresh plain .done)) 32
     ∷ clocked twoTicks (request 1 0 1) 0 ∷ clocked twoTicks (request 2 0 1) 2
     ∷ clocked twoTicks (advance 4_000_000_001) 0 ∷ clocked twoTicks drain 2
     ∷ clocked (idleAt 4_032_000_000) drain 4_032_000_000

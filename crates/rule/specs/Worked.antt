@@ -29,6 +29,8 @@ readings =
     reading (owedOf atFour 0) (value 2) ∷ reading (owedOf atFour 1) (value 1) ∷ reading (owedOf atFour 2) (Reading.refused 12)
     ∷ reading (givenOf atFour 0) (value 3) ∷ reading (givenOf atFour 1) (value 1) ∷ reading (givenOf atFour 2) (Reading.refused 12)
     ∷ reading (completedOf atFour 0) never ∷ reading (completedOf atFour 31) (Reading.refused 12)
+    -- by the count, which is here not the policy's number
+    ∷ reading (owedOf (fresh (robin 3 1)) 2) (value 0) ∷ reading (owedOf (fresh (robin 3 1)) 3) (Reading.refused 12)
     ∷ reading (completedOf (drained atFour) 1) (value 5) ∷ reading (owedOf (drained atFour) 1) (value 0)
     ∷ reading (completedOf askedAgain 0) (value 2) ∷ reading (givenOf askedAgain 0) (value 2) ∷ reading (owedOf askedAgain 0) (value 4)
     ∷ nextIs atFour (done 1 5) ∷ nextIs (call atFour (advance 5)) (done 0 7) ∷ nextIs (drained atFour) nothing
