@@ -10,6 +10,7 @@ for part in "$@"; do
     case $part in tables | growth | program | judging) ;; *) sed -n '2,5s/^# //p' "$0" >&2 && exit 2 ;; esac
 done
 fail() { echo "bench/run.sh: $*" >&2; exit 1; }
+[ "$(uname -m)" = x86_64 ] || fail "the library is for x86-64, and this is $(uname -m)"
 command -v valgrind >/dev/null || fail "valgrind counts the instructions and is not here"
 library=$PWD/target/staticlib/libdesk.a program=target/bin/print
 [ -f "$library" ] || fail "there is no $library: rt staticlib desk"

@@ -8,10 +8,11 @@ made=$(mktemp -d) || exit 2
 trap 'rm -rf "$made"' EXIT
 library=target/staticlib/libdesk.a
 fail() { echo "header: $*"; exit 1; }
-gcc -Wall -Wextra -Werror -std=c11 -Iinclude tests/fields.c "$library" -o "$made/c" || fail "tests/fields.c as C11"
-g++ -Wall -Wextra -Werror -Iinclude -x c++ tests/fields.c -x none "$library" -o "$made/cpp" || fail "tests/fields.c as C++"
-"$made/c" || fail "the header does not fit, as C11"
-"$made/cpp" || fail "the header does not fit, as C++"
+tools/cc -Wall -Wextra -Werror -std=c11 -Iinclude tests/fields.c "$library" -o "$made/c" || fail "tests/fields.c as C11"
+tools/cc -Wall -Wextra -Werror -Iinclude -x c++ tests/fields.c -x none "$library" -o "$made/cpp" ||
+    fail "tests/fields.c as C++"
+tools/run "$made/c" || fail "the header does not fit, as C11"
+tools/run "$made/cpp" || fail "the header does not fit, as C++"
 python3 - "$made" <<'PY' || fail "no wrong headers were made"
 import os, re, sys
 lines = open("include/anduri.h").read().split("\n")
@@ -36,8 +37,8 @@ sys.exit(made < 24)
 PY
 count=0
 for wrong in "$made"/wrong/*; do
-    gcc -std=c11 -w -I"$wrong" tests/fields.c "$library" -o "$made/wrong.out" || fail "$(basename "$wrong") does not compile"
-    "$made/wrong.out" >/dev/null 2>&1 && fail "$(basename "$wrong") is wrong, and was not found"
+    tools/cc -std=c11 -w -I"$wrong" tests/fields.c "$library" -o "$made/wrong.out" || fail "$(basename "$wrong") does not compile"
+    tools/run "$made/wrong.out" >/dev/null 2>&1 && fail "$(basename "$wrong") is wrong, and was not found"
     count=$((count + 1))
 done
 echo "header: each of $count wrong headers is found"

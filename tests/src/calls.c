@@ -7,6 +7,7 @@
  *     row TIME TASK AMOUNT                                  adds a row to the columns
  *     table ROOM TIMES TASKS AMOUNTS                        lends so many entries of them, under the latest setup's numbers
  *     log HEX                                               judges these bytes and prints their report
+ *     answer                                                prints `answered` at once
  *
  * A setup begins a new run, a refused one that of the plain setup in its place, and empty columns. # begins a comment.
  * Build: gcc -std=c11 -Iinclude tests/src/calls.c target/staticlib/libdesk.a -o calls */
@@ -192,7 +193,10 @@ int main(void)
         line read = read_line(text);
         if (!read.name)
             continue;
-        if (is_call(&read, "row", 3)) {
+        if (is_call(&read, "answer", 0)) {
+            puts("answered");
+            fflush(stdout);
+        } else if (is_call(&read, "row", 3)) {
             add_row(&lent, read.numbers);
         } else if (is_call(&read, "table", 4)) {
             run_table(&setup, &lent, read.numbers);

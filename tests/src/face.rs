@@ -1,5 +1,7 @@
 //! The library behind its C face, as a `Replay`. Present where ANDURI_LIB names the archive.
 
+#[cfg(not(target_arch = "x86_64"))]
+use crate::far::*;
 use crate::{Columns, Refusal, Replay, Row, Setup};
 
 /// The run's struct as the library lays it out.
@@ -28,7 +30,7 @@ pub struct RunSetup {
 
 #[repr(C)]
 #[derive(Clone, Copy)]
-struct Moved {
+pub(crate) struct Moved {
     refusal: u32,
     run: Run,
 }
@@ -49,7 +51,7 @@ pub struct NextDone {
 
 #[repr(C)]
 #[derive(Clone, Copy)]
-struct Outcome {
+pub(crate) struct Outcome {
     refusal: u32,
     place: u32,
     end: u32,
@@ -57,12 +59,13 @@ struct Outcome {
 
 #[repr(C)]
 #[derive(Clone, Copy)]
-struct Verdict {
+pub(crate) struct Verdict {
     refusal: u32,
     place: u32,
     records: u32,
 }
 
+#[cfg(target_arch = "x86_64")]
 extern "C" {
     fn anduri_setup(policy: u32, count: u32, slice: u32, priorities: *const u8, length: usize) -> Moved;
     fn anduri_request(run: Run, time: u32, task: u32, amount: u32) -> Moved;

@@ -1,9 +1,14 @@
 //! The library's calls on a run that the caller keeps, as a `Replay`. Each call and each reading is made beside the one
 //! by value: the answers and every byte of the run are the same.
 
-use crate::face::{read, Library, NextDone, Reading, Run, RunSetup};
+use crate::face::{read, Library, Run, RunSetup};
+#[cfg(target_arch = "x86_64")]
+use crate::face::{NextDone, Reading};
+#[cfg(not(target_arch = "x86_64"))]
+use crate::far::*;
 use crate::{Columns, Refusal, Replay, Row, Setup};
 
+#[cfg(target_arch = "x86_64")]
 extern "C" {
     fn anduri_setup_in(run: *mut Run, setup: RunSetup) -> u32;
     fn anduri_request_in(run: *mut Run, time: u32, task: u32, amount: u32) -> u32;

@@ -8,6 +8,8 @@ pub mod damages;
 pub mod edges;
 #[cfg(anduri_lib)]
 pub mod face;
+#[cfg(all(anduri_lib, not(target_arch = "x86_64")))]
+mod far;
 pub mod gen;
 pub mod jumps;
 #[cfg(anduri_lib)]
@@ -131,4 +133,11 @@ pub struct Columns<'a> {
     pub times: &'a [u32],
     pub tasks: &'a [u32],
     pub amounts: &'a [u32],
+}
+
+/// A program for x86-64, to be run on any machine that the toolchain is for.
+pub fn run(program: impl AsRef<std::ffi::OsStr>) -> std::process::Command {
+    let mut command = std::process::Command::new(concat!(env!("CARGO_MANIFEST_DIR"), "/../tools/run"));
+    command.arg(program);
+    command
 }

@@ -8,10 +8,11 @@ use anduri_tests::jumps::Jumps;
 use anduri_tests::oracle::Oracle;
 use anduri_tests::script::{same, Script};
 use anduri_tests::shrink::failure;
-use anduri_tests::{Replay, LAST_TIME};
-use std::io::Write;
+use anduri_tests::{run, Replay, LAST_TIME};
+use std::cell::RefCell;
+use std::io::{BufRead, BufReader, Write};
 use std::path::{Path, PathBuf};
-use std::process::{Command, Stdio};
+use std::process::{ChildStdin, ChildStdout, Command, Stdio};
 
 const WRONG: &str = include_str!("../src/wrong.c");
 
@@ -26,47 +27,57 @@ fn faults() -> Vec<&'static str> {
     WRONG.split("has(\"").skip(1).map(|rest| rest.split('"').next().unwrap()).collect()
 }
 
-/// The compiled program, and the fault that it is told to have.
+fn compiled(name: &str, sources: &[&str], wrapped: &[&str]) -> PathBuf {
+    let here = Path::new(env!("CARGO_MANIFEST_DIR"));
+    let path = Path::new(env!("CARGO_TARGET_TMPDIR")).join(name);
+    let status = Command::new(here.join("../tools/cc"))
+        .args(["-std=c11", "-Wall", "-Wextra", "-Werror", "-O2", "-I"])
+        .arg(here.join("../include"))
+        .args(sources.iter().map(|source| here.join("src").join(source)))
+        .arg(env!("ANDURI_ARCHIVE"))
+        .args(wrapped.iter().map(|function| format!("-Wl,--wrap={function}")))
+        .arg("-o")
+        .arg(&path)
+        .status();
+    assert!(status.expect("tools/cc starts").success(), "{name} is not compiled");
+    path
+}
+
+/// The compiled program as it runs: it answers script after script.
 struct Program {
-    path: PathBuf,
-    fault: &'static str,
+    to: RefCell<ChildStdin>,
+    from: RefCell<BufReader<ChildStdout>>,
 }
 
 impl Program {
-    fn compiled(name: &str, sources: &[&str], wrapped: &[&str]) -> Program {
-        let here = Path::new(env!("CARGO_MANIFEST_DIR"));
-        let path = Path::new(env!("CARGO_TARGET_TMPDIR")).join(name);
-        let status = Command::new("gcc")
-            .args(["-std=c11", "-Wall", "-Wextra", "-Werror", "-O2", "-I"])
-            .arg(here.join("../include"))
-            .args(sources.iter().map(|source| here.join("src").join(source)))
-            .arg(env!("ANDURI_ARCHIVE"))
-            .args(wrapped.iter().map(|function| format!("-Wl,--wrap={function}")))
-            .arg("-o")
-            .arg(&path)
-            .status();
-        assert!(status.expect("gcc starts").success(), "{name} is not compiled");
-        Program { path, fault: "" }
+    /// Starts the program with a fault, or with none.
+    fn started(path: &Path, fault: &str) -> Program {
+        let child = run(path).env("ANDURI_FAULT", fault).stdin(Stdio::piped()).stdout(Stdio::piped()).spawn();
+        let child = child.expect("the program starts");
+        Program { to: child.stdin.unwrap().into(), from: BufReader::new(child.stdout.unwrap()).into() }
     }
 
     /// What the program prints for a script.
     fn told(&self, script: String) -> String {
-        let mut child = Command::new(&self.path)
-            .env("ANDURI_FAULT", self.fault)
-            .stdin(Stdio::piped())
-            .stdout(Stdio::piped())
-            .spawn()
-            .expect("the program starts");
-        let mut input = child.stdin.take().unwrap();
-        let writer = std::thread::spawn(move || input.write_all(script.as_bytes()));
-        let output = child.wait_with_output().unwrap();
-        writer.join().unwrap().expect("the program reads the whole script");
-        assert!(output.status.success(), "the program stops: {}", output.status);
-        String::from_utf8(output.stdout).unwrap()
+        let (to, from) = (&mut *self.to.borrow_mut(), &mut *self.from.borrow_mut());
+        std::thread::scope(|scope| {
+            let writer = scope.spawn(move || to.write_all((script + "answer\n").as_bytes()));
+            let mut text = String::new();
+            while !text.ends_with("answered\n") {
+                assert_ne!(from.read_line(&mut text).unwrap(), 0, "the program stops");
+            }
+            writer.join().unwrap().expect("the program reads the whole script");
+            text.truncate(text.len() - "answered\n".len());
+            text
+        })
     }
 
-    /// The first failing case, as it is printed. All cases are one script.
+    /// The first failing case, as it is printed. Many cases are one script.
     fn failure<C: Script>(&self, cases: &[Drawn<C>]) -> Option<String> {
+        cases.chunks(25).find_map(|some| self.failure_among(some))
+    }
+
+    fn failure_among<C: Script>(&self, cases: &[Drawn<C>]) -> Option<String> {
         let all = self.told(cases.iter().map(|drawn| drawn.case.script()).collect());
         let starts: Vec<usize> = all.match_indices(C::START).map(|(at, _)| at).chain([all.len()]).collect();
         assert_eq!(starts.len(), cases.len() + 1, "each case is answered");
@@ -126,7 +137,7 @@ fn logs(cases: u64) -> Vec<Drawn<LogCase>> {
 
 #[test]
 fn answers_in_c() {
-    let program = Program::compiled("calls", &["calls.c"], &[]);
+    let program = Program::started(&compiled("calls", &["calls.c"], &[]), "");
     program.hold(&small(800));
     program.hold(&at_limits(800));
     program.hold(&tables(2_000));
@@ -154,14 +165,14 @@ fn cases_reach_every_answer() {
 
 #[test]
 fn wrong_answers_are_found() {
-    let mut program = Program::compiled("wrong_calls", &["calls.c", "wrong.c"], &wrapped());
+    let path = compiled("wrong_calls", &["calls.c", "wrong.c"], &wrapped());
     let (small, at_limits, tables, logs) = (small(200), at_limits(400), tables(200), logs(50));
     let calls = include_str!("../src/calls.c").split(|c: char| !(c == '_' || c == '(' || c.is_ascii_alphanumeric()));
     for call in calls.filter(|word| word.starts_with("anduri_")).filter_map(|word| Some(word.split_once('(')?.0)) {
         assert!(wrapped().contains(&call), "{call} has no fault");
     }
     for fault in faults() {
-        program.fault = fault;
+        let program = Program::started(&path, fault);
         let calls = || program.failure(&small).or_else(|| program.failure(&at_limits));
         let found = calls().or_else(|| program.failure(&tables)).or_else(|| program.failure(&logs));
         let text = found.unwrap_or_else(|| panic!("{fault} is not found"));

@@ -3,7 +3,7 @@
 use anduri_tests::jumps::Jumps;
 use anduri_tests::oracle::Oracle;
 use anduri_tests::vectors::{readme, vectors};
-use anduri_tests::Replay;
+use anduri_tests::{run, Replay};
 use std::collections::BTreeSet;
 use std::fs;
 use std::io::Write;
@@ -58,7 +58,7 @@ fn library_prints_them() {
 /// What the program prints for input that comes through a pipe, in these pieces.
 fn piped(program: &Path, pieces: &[&[u8]]) -> String {
     let mut child =
-        Command::new(program).stdin(Stdio::piped()).stdout(Stdio::piped()).spawn().expect("the program starts");
+        run(program).stdin(Stdio::piped()).stdout(Stdio::piped()).spawn().expect("the program starts");
     let mut input = child.stdin.take().unwrap();
     for piece in pieces {
         // The program may stop reading once the input is too long.
@@ -81,7 +81,7 @@ fn program_prints_them() {
     let program = Path::new(env!("CARGO_MANIFEST_DIR")).join("..").join(program);
     for vector in vectors() {
         let log = fs::File::open(folder().join(format!("{}.log", vector.name))).unwrap();
-        let output = Command::new(&program).stdin(log).output().expect("the program starts");
+        let output = run(&program).stdin(log).output().expect("the program starts");
         assert_eq!(String::from_utf8_lossy(&output.stdout), vector.text, "{}", vector.name);
     }
     for vector in vectors().iter().filter(|vector| ["case_a", "records_1024"].contains(&vector.name.as_str())) {
