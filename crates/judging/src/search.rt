@@ -4,6 +4,7 @@ ghost use mathlib.Core.Path.{_≡_};
 ghost use mathlib.Core.Bool.{cond, _||_};
 ghost use Prim.Native.Nat.{_*_, _-_, _≤_, _<_};
 ghost use lib.ListN.{length, drop};
+ghost use lib.Seq.{slice};
 ghost use lib.Dec.{eqb};
 ghost use Rattle.lists.specs.Lists.{within, zeros};
 ghost use Rattle.rule.specs.Setups.{asked, setupRefusal};
@@ -42,6 +43,24 @@ fn first_unused(part: &[u8], block: usize) -> usize
         return 48;
     }
     8 + 12 * (word_at(part, 4) as usize)
+}
+
+// A place up to which the bytes from `from` on are zero. They are passed eight at a time, which spares the search most turns.
+fn past_zeros(part: &[u8], from: usize) -> usize
+    requires { ⌜ length (now part) ≡ 512 ⌝ }
+    ensures { λ r. ⌜ zeros (slice from 508 (now (part .entry))) ≡ zeros (slice r 508 (now (part .entry))) ⌝ }
+{
+    let mut at = from;
+    while at <= 500 {
+        if word_at(part, at) != 0 {
+            return at;
+        }
+        if word_at(part, at + 4) != 0 {
+            return at;
+        }
+        at += 8;
+    }
+    at
 }
 
 // The refusal 1 to 4 of the setup in block 0; 0 for the other blocks, which have none.
@@ -83,7 +102,7 @@ pub fn judge_blocks(log: &[u8], blocks: usize) -> Judged
         if !count_right(part, blocks, block) {
             break 'search Judged::Refused { number: 33, block };
         }
-        let mut at = first_unused(part, block);
+        let mut at = past_zeros(part, first_unused(part, block));
         'bytes: while at < 508 {
             if part[at] != 0 {
                 break 'search Judged::Refused { number: 33, block };

@@ -103,19 +103,21 @@ counted c = sym (c .before .count-right .ensures) ∙ not-false _ (c .if4 .left)
 abbrev unusedOf : Begun → ℕ
 unusedOf c = firstUnused (placeAt c) (partAt c)
 
-unused : (c : tie.After-first-unused Inv-bytes μ-bytes Inv-search μ-search)
-    → zeros (slice (unusedOf (begunAt (c .before))) 508 (partAt (begunAt (c .before))))
-    ≡ zeros (slice (c .first-unused .result) 508 (partAt (begunAt (c .before))))
-unused c = ap (λ (f : ℕ). zeros (slice f 508 (partAt (begunAt (c .before))))) (sym (c .first-unused .ensures))
+unused : (c : tie.After-past-zeros Inv-bytes μ-bytes Inv-search μ-search)
+    → zeros (slice (unusedOf (begunAt (c .before .before))) 508 (partAt (begunAt (c .before .before))))
+    ≡ zeros (slice (c .past-zeros .result) 508 (partAt (begunAt (c .before .before))))
+unused c =
+    ap (λ (f : ℕ). zeros (slice f 508 (partAt (begunAt (c .before .before))))) (sym (c .before .first-unused .ensures))
+    ∙ c .past-zeros .ensures
 
 -- a block whose bytes are right is refused as its setup is
 refused-as : (c : tie.After-block-setup-refusal Inv-bytes μ-bytes Inv-search μ-search)
     → blockRefusal
-    (logAt (begunAt (c .before .before .before .before)))
-    (placeAt (begunAt (c .before .before .before .before)))
+    (logAt (begunAt (c .before .before .before .before .before)))
+    (placeAt (begunAt (c .before .before .before .before .before)))
     ≡ c .block-setup-refusal .result
 refused-as c =
-    let e = c .before .before .before .before in
+    let e = c .before .before .before .before .before in
     refusal-setup (judged-before (begunAt e)) (headed (e .before .before)) (counted e)
     (unused (c .before .before .before) ∙ c .before .before .bytes .inv
     ∙ zeros-slice-past 508 (partAt (begunAt e)) (c .before .before .bytes .at) (whole (begunAt e))
@@ -130,7 +132,7 @@ bytes-holds c = refl
 
 bytes-again : tie.Need-bytes-again Inv-bytes μ-bytes Inv-search μ-search
 bytes-again c =
-    let e = begunAt (c .before .before .before .before .before) in
+    let e = begunAt (c .before .before .before .before .before .before) in
     c .before .before .before .bytes .inv
     ∙ zeros-slice-same 508 (partAt e) (c .before .before .before .bytes .at) (whole e)
     (c .before .before .bytes-test .taken) (c .if5 .left)
@@ -141,7 +143,7 @@ block-setup-refusal-requires c κs = search needs
 
 search-again : tie.Need-search-again Inv-bytes μ-bytes Inv-search μ-search
 search-again c =
-    let f = c .before .before .before .before .before in
+    let f = c .before .before .before .before .before .before in
     let e = begunAt f in (
       search needs,
       begun e ∙ judged-good (logAt e) (blocksAt e) (placeAt e) (e .if1 .left) (refused-as (c .before) ∙ c .if6 .left),
@@ -178,9 +180,9 @@ returns-4 c =
 returns-5 : tie.Need-returns-5 Inv-bytes μ-bytes Inv-search μ-search
 returns-5 c =
     let f = c .before .before .before .before in
-    let e = begunAt (f .before) in
+    let e = begunAt (f .before .before) in
     stopped e 33
-    (refusal-byte (judged-before e) (headed (f .before .before .before)) (counted (f .before))
+    (refusal-byte (judged-before e) (headed (f .before .before .before .before)) (counted (f .before .before))
     (unused f ∙ c .before .before .before .bytes .inv
     ∙ zeros-slice-other 508 (partAt e) (c .before .before .before .bytes .at) (whole e)
     (c .before .before .bytes-test .taken) (c .if5 .taken)))
@@ -188,7 +190,7 @@ returns-5 c =
 
 returns-6 : tie.Need-returns-6 Inv-bytes μ-bytes Inv-search μ-search
 returns-6 c =
-    stopped (begunAt (c .before .before .before .before .before)) (c .before .block-setup-refusal .result)
+    stopped (begunAt (c .before .before .before .before .before .before)) (c .before .block-setup-refusal .result)
     (refused-as (c .before)) (c .if6 .taken)
 
 pub judge-blocks-spec : {M : Type 1} → statement M
@@ -209,6 +211,7 @@ judge-blocks-spec =
     (λ c κs. search needs)
     (λ c κs. search needs)
     (λ c. search needs)
+    (λ c κs. search needs)
     (λ c κs. search needs)
     (λ c κs. search needs)
     bytes-holds
