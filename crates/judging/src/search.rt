@@ -7,7 +7,7 @@ ghost use Prim.Native.Nat.{_*_, _-_, _≤_, _<_};
 ghost use lib.ListN.{length, take};
 ghost use lib.Seq.{slice};
 ghost use lib.Dec.{eqb};
-ghost use Rattle.lists.specs.Lists.{within, zeros};
+ghost use Rattle.lists.specs.Lists.{zeros};
 ghost use Rattle.rule.specs.Refusal.{refuse, first};
 ghost use Rattle.rule.specs.Setups.{setupRefusal};
 ghost use Rattle.judging.specs.Blocks.{setupIn, count, countFits, firstUnused};
@@ -47,7 +47,7 @@ fn first_unused(part: &[u8], block: usize) -> usize
     8 + 12 * (word_at(part, 4) as usize)
 }
 
-// A place up to which the bytes from `from` on are zero. They are passed eight at a time, which spares the search most turns.
+// A place from which on the bytes that must be zero are as zero as from `from` on: zeros are passed eight at a time.
 fn past_zeros(part: &[u8], from: usize) -> usize
     requires { ⌜ length (now part) ≡ 512 ⌝ }
     ensures { λ r. ⌜ zeros (slice from 508 (now (part .entry))) ≡ zeros (slice r 508 (now (part .entry))) ⌝ }
@@ -65,7 +65,8 @@ fn past_zeros(part: &[u8], from: usize) -> usize
     at
 }
 
-// The first of 31, 32 and 33 by what is right of a block's head: its check, its place, its number of records; 0 where all is.
+// The first of 31, 32 and 33, by whether a block's check, its place and its number of records are right; 0 where all
+// are.
 fn first_wrong(sum: bool, place: bool, count: bool) -> u32
     ensures { λ r. ⌜ r ≡ first (refuse 31 (not sum) ∷ refuse 32 (not place) ∷ refuse 33 (not count) ∷ []) ⌝ }
 {

@@ -3,9 +3,8 @@
 -- words, one word more; a sum kept modulo 2 ^ 32 is the check. Assumes nothing.
 use Prim.Native.Nat.{ℕ, zero, suc, _+_, _*_, _%_, _≤_, _<_}
 use native.Mathlib.Omega.{arith}
-use native.Mathlib.Numerals.{add-one}
 use native.Mathlib.Nat.{add-assoc, suc-add}
-use mathlib.Core.Path.{_≡_, refl, sym, ap, _∙_}
+use mathlib.Core.Path.{_≡_, ap, _∙_}
 use mathlib.Core.List.{List, [], _∷_}
 use lib.ListN.{length, take, drop, List·getD-eq-default}
 use lib.Seq.{slice, getD-take, getD-drop}

@@ -1,5 +1,5 @@
 -- `judging::search::past_zeros` meets its contract: a word that is 0 is four bytes of the stretch. Assumes nothing.
-use Prim.Native.Nat.{_+_, _-_}
+use Prim.Native.Nat.{_-_}
 use native.Mathlib.Omega.{arith}
 use native.Mathlib.Nat.{add-assoc}
 use borrow.Author.Needs.{needs}
