@@ -1,15 +1,17 @@
 -- Laws of judging. In order: the refusal of a block, rule by rule; the blocks that are left to judge. Assumes nothing.
-use Prim.Native.Nat.{ℕ, zero, suc, _+_, _*_, _-_, _/_, _≤_, _<_}
+use Prim.Native.Nat.{ℕ, suc, _+_, _*_, _-_, _≤_, _<_}
 use native.Mathlib.Omega.{arith}
-use mathlib.Core.Path.{_≡_, refl, sym, ap, _∙_}
+use mathlib.Core.Path.{_≡_, refl, _∙_}
 use mathlib.Core.Bool.{Bool, true, false, cond, not, _&&_, _||_}
-use mathlib.Core.List.{List}
+use mathlib.Core.List.{List, [], _∷_}
 use lib.ListN.{length, take, drop, length-drop}
 use lib.Seq.{slice, length-take-le}
 use lib.Dec.{eqb}
 use borrow.Author.Tests.{eq-eqb, ne-eqb}
 use Rattle.lists.specs.Lists.{zeros}
+use Rattle.lists.proofs.Testing.{equal-or, passed-not}
 use Rattle.words.specs.Words.{word, check}
+use Rattle.rule.specs.Refusal.{refuse, first}
 use Rattle.rule.specs.Setups.{setupRefusal}
 use Rattle.judging.specs.Blocks.{blocks, block, checkFits, placeFits, setupIn, count, recordsTo, countFits}
 use Rattle.judging.specs.Blocks.{firstUnused, unusedZero, layoutFits}
@@ -31,46 +33,71 @@ pub record Before (log : List ℕ) (n i : ℕ) : Type 0 where
   pub size : blocks log ≡ n
   pub full : recordsTo log (i - 1) ≡ 41 * (i - 1)
 
--- the bytes b of block i have the check, and its place
-pub record Headed (log : List ℕ) (i : ℕ) (b : List ℕ) : Type 0 where
-  pub bytes : b ≡ block log i
-  pub sum : word b 508 ≡ check b
-  pub place : word b 0 ≡ i
+-- the first of 31, 32 and 33, by the check, the place and the number of records of the bytes b of block i
+abbrev pub headRefusal : ℕ → ℕ → List ℕ → ℕ
+headRefusal n i b =
+    first
+    (refuse 31 (not (eqb (word b 508) (check b)))
+    ∷ refuse 32 (not (eqb (word b 0) i))
+    ∷ refuse 33 (not (eqb i 0 || countFits n i (41 * (i - 1)) (count b)))
+    ∷ [])
 
-module _ (log : List ℕ) (i : ℕ) (b : List ℕ) where
-  pub refusal-check : b ≡ block log i → (word b 508 ≡ check b → ⊥) → blockRefusal log i ≡ 31
-  unfolding blockRefusal checkFits
-  refusal-check e h = rw (← e, ne-eqb (word b 508) (check b) h)
+-- three tests in their order, then s
+abbrev inOrder : Bool → Bool → Bool → ℕ → ℕ
+inOrder a b c s = cond (not a) 31 (cond (not b) 32 (cond (not c) 33 s))
 
-  pub refusal-place : b ≡ block log i → word b 508 ≡ check b → (word b 0 ≡ i → ⊥) → blockRefusal log i ≡ 32
-  unfolding blockRefusal checkFits placeFits
-  refusal-place e s h = rw (← e, eq-eqb (word b 508) (check b) s, ne-eqb (word b 0) i h)
+head-stops : (a b c z : Bool) (s : ℕ) → (inOrder a b c 0 ≡ 0 → ⊥) → inOrder a b (c && z) s ≡ inOrder a b c 0
+head-stops false b c z s h = refl
+head-stops true false c z s h = refl
+head-stops true true false z s h = refl
+head-stops true true true z s h = absurd (h refl)
 
-module _ {log : List ℕ} {i : ℕ} {b : List ℕ} where
-  -- the refusal of a block whose check and place are right
-  refusal-headed : Headed log i b → blockRefusal log i
-      ≡ cond (not (layoutFits log i)) 33 (cond (eqb i 0) (setupRefusal (setupIn b)) 0)
-  unfolding blockRefusal checkFits placeFits
-  refusal-headed h =
-      rw (← h .bytes, eq-eqb (word b 508) (check b) (h .sum), eq-eqb (word b 0) i (h .place))
+head-passes : (a b c z : Bool) (s : ℕ) → inOrder a b c 0 ≡ 0 → inOrder a b (c && z) s ≡ cond (not z) 33 s
+head-passes a b c z s h =
+    let p = passed-not a 30 _ h in
+    let q = passed-not b 31 _ (p .1) in
+    rw (p .0, q .0, passed-not c 32 _ (q .1) .0)
 
-  layout-parts : {n : ℕ} → Before log n i → Headed log i b → layoutFits log i
-      ≡ ((eqb i 0 || countFits n i (41 * (i - 1)) (count b)) && zeros (slice (firstUnused i b) 508 b))
-  unfolding layoutFits unusedZero
-  layout-parts p h = rw (← h .bytes, p .size, p .full)
+module _ {log : List ℕ} {n i : ℕ} {b : List ℕ} (p : Before log n i) (e : b ≡ block log i) where
+  abbrev sum : Bool
+  sum = eqb (word b 508) (check b)
 
-  module _ {n : ℕ} (p : Before log n i) (h : Headed log i b) where
-    pub refusal-count : (eqb i 0 || countFits n i (41 * (i - 1)) (count b)) ≡ false → blockRefusal log i ≡ 33
-    refusal-count f = refusal-headed h ∙ rw (layout-parts p h, f)
+  abbrev place : Bool
+  place = eqb (word b 0) i
 
-    pub refusal-byte : (eqb i 0 || countFits n i (41 * (i - 1)) (count b)) ≡ true
-        → zeros (slice (firstUnused i b) 508 b) ≡ false → blockRefusal log i ≡ 33
-    refusal-byte f z = refusal-headed h ∙ rw (layout-parts p h, f, z)
+  abbrev counted : Bool
+  counted = eqb i 0 || countFits n i (41 * (i - 1)) (count b)
 
-    pub refusal-setup : (eqb i 0 || countFits n i (41 * (i - 1)) (count b)) ≡ true
-        → zeros (slice (firstUnused i b) 508 b) ≡ true
-        → blockRefusal log i ≡ cond (eqb i 0) (setupRefusal (setupIn b)) 0
-    refusal-setup f z = refusal-headed h ∙ rw (layout-parts p h, f, z)
+  abbrev unused : Bool
+  unused = zeros (slice (firstUnused i b) 508 b)
+
+  abbrev setup : ℕ
+  setup = cond (eqb i 0) (setupRefusal (setupIn b)) 0
+
+  refusal-parts : blockRefusal log i ≡ inOrder sum place (counted && unused) setup
+  unfolding blockRefusal checkFits placeFits layoutFits unusedZero
+  refusal-parts = rw (← e, p .size, p .full)
+
+  pub refusal-head : (headRefusal n i b ≡ 0 → ⊥) → blockRefusal log i ≡ headRefusal n i b
+  refusal-head h = refusal-parts ∙ head-stops sum place counted unused setup h
+
+  module _ (h : headRefusal n i b ≡ 0) where
+    pub head-counts : counted ≡ true
+    head-counts = passed-not counted 32 0 (passed-not place 31 _ (passed-not sum 30 _ h .1) .1) .0
+
+    refusal-passes : blockRefusal log i ≡ cond (not unused) 33 setup
+    refusal-passes = refusal-parts ∙ head-passes sum place counted unused setup h
+
+    pub refusal-byte : unused ≡ false → blockRefusal log i ≡ 33
+    refusal-byte z = refusal-passes ∙ rw z
+
+    pub refusal-setup : unused ≡ true → blockRefusal log i ≡ setup
+    refusal-setup z = refusal-passes ∙ rw z
+
+-- a setup that is told at block 0 alone is that of block 0
+pub setup-first : (log : List ℕ) (i : ℕ) → cond (eqb i 0) (setupRefusal (setupIn (block log i))) 0
+    ≡ cond (eqb i 0) (setupRefusal (setupIn (take 512 log))) 0
+setup-first log i = equal-or i 0 (λ e. rw e) (λ e. rw (ne-eqb i 0 e))
 
 -- ---- the blocks that are left
 

@@ -1,6 +1,7 @@
 pub mod Places
 pub mod Steps
 pub mod Unique
+mod Walks
 mod Take
 mod Fields
 mod Slices

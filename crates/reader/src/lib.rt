@@ -45,7 +45,7 @@ pub fn take_at(log: &[u8], block: usize, record: usize) -> Taken
         return Taken {
             found,
             block: block + 1,
-            record: 0,
+            record: 0, // the first of that block
         };
     }
     Taken {

@@ -3,13 +3,13 @@
 -- words, one word more; a sum kept modulo 2 ^ 32 is the check. Assumes nothing.
 use Prim.Native.Nat.{ℕ, zero, suc, _+_, _*_, _%_, _≤_, _<_}
 use native.Mathlib.Omega.{arith}
-use native.Mathlib.Numerals.{add-one}
 use native.Mathlib.Nat.{add-assoc, suc-add}
-use mathlib.Core.Path.{_≡_, refl, sym, ap, _∙_}
+use mathlib.Core.Path.{_≡_, ap, _∙_}
 use mathlib.Core.List.{List, [], _∷_}
 use lib.ListN.{length, take, drop, List·getD-eq-default}
-use lib.Seq.{getD-take, getD-drop}
-use Rattle.lists.specs.Lists.{at, total}
+use lib.Seq.{slice, getD-take, getD-drop}
+use Rattle.lists.specs.Lists.{at, total, zeros}
+use Rattle.lists.proofs.Zeros.{zeros-slice-same}
 use Rattle.words.specs.Words.{word, words, check}
 
 -- ---- parts
@@ -44,6 +44,18 @@ module _ (s : List ℕ) (i : ℕ) where
 
   pub word-none : length s ≤ i → word s i ≡ 0
   word-none h = omega (arith, word-one (omega arith), List·getD-eq-default s 0 {n = i} h)
+
+-- ---- zeros
+
+-- a word that is 0 does not tell whether a stretch is zero
+pub zeros-word : (t : ℕ) (s : List ℕ) (i : ℕ) → t ≤ length s → i + 4 ≤ t → word s i ≡ 0
+    → zeros (slice i t s) ≡ zeros (slice (i + 4) t s)
+unfolding word
+zeros-word t s i whole inside none =
+    zeros-slice-same t s i whole (omega arith) (omega arith)
+    ∙ (simp add-assoc at (zeros-slice-same t s (i + 1) whole (omega arith) (omega arith)))
+    ∙ (simp add-assoc at (zeros-slice-same t s (i + 2) whole (omega arith) (omega arith)))
+    ∙ (simp add-assoc at (zeros-slice-same t s (i + 3) whole (omega arith) (omega arith)))
 
 -- ---- sums
 

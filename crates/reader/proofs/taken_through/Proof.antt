@@ -19,8 +19,8 @@ use contract.Running.{givenOf}
 use types.Kit.{Given, ‵, raw, given, _⊛_, ⋆, some, later, _$_, _∵_, !, qed, by, move, keep, drop, use1, use2, use3}
 use types.Kit.{split, join, learn, pick, rewrite, fsplit, fjoin, frame, await, done}
 use types.Part.{whole, sub, look-in, agg}
-use types.Run.{look, init, forget, stop, fld, from, load, of-opd, addr, and-then, no-more, assigns, land, returns}
-use types.Run.{enter, alloc1, alloc0, params1, pass1, pass0, free1, free0}
+use types.Run.{look, init, stop, fld, from, load, of-opd, addr, and-then, no-more, assigns, land, returns, enter}
+use types.Run.{alloc1, alloc0, params1, pass1, pass0, free0}
 use types.SemTy.{Body}
 use types.Tokens.{lft-new, lft-end}
 use sound.WpLaws.{FmC, fmOf}
@@ -51,6 +51,7 @@ use Rattle.log.proofs.Found as S
 use Rattle.log.proofs.Found.Laws as S′
 use Rattle.walk_laws.proofs.Calling.{over}
 use Rattle.walk_laws.proofs.Lying.{held-in, lies-out}
+use Rattle.reader.proofs.Walks.{gone}
 use Rattle.reader.proofs.Take.{slice-of, rowD, Takes, Core, Enters, machine, Post, exits, by-walk}
 use Rattle.reader.proofs.Taken as D
 use Rattle.reader.proofs.Taken.Laws as D′
@@ -229,12 +230,9 @@ module _ {M : Type 1} (𝓤 : URA M) (H : Heap 𝓤) (A : Atoms 𝓤) (W : Given
         (look ! 6 refl)) (and-then ! (load ! (from ! (stop !)) (look ! 4 refl)) (no-more !))))) (from ! (stop !))
         (init ! 19 refl (LL.lawful D.the-type D′.the-laws 𝓤 H A W .typed (made t (ws .0)) _ (made-is t (ws .0) isT is)
         .0)) $
-        returns ! (look ! 19 refl) $ forget ! 0 refl $ forget ! 4 refl $ forget ! 6 refl $ forget ! 8 refl $
-        forget ! 10 refl $ forget ! 13 refl $ forget ! 15 refl $ forget ! 17 refl $ forget ! 19 refl $
-        move ! (19 ∷ 20 ∷ []) $ free1 ! $ move ! (17 ∷ 18 ∷ []) $ free1 ! $ move ! (15 ∷ 16 ∷ []) $ free1 ! $
-        move ! (13 ∷ 14 ∷ []) $ free1 ! $ move ! (0 ∷ 12 ∷ []) $ free1 ! $
-        move ! (9 ∷ 10 ∷ []) $ free1 ! $ move ! (7 ∷ 8 ∷ []) $ free1 ! $ move ! (5 ∷ 6 ∷ []) $ free1 ! $
-        move ! (3 ∷ 4 ∷ []) $ free1 ! $ free0 ! $
+        returns ! (look ! 19 refl) $ gone ! 19 19 refl refl $ gone ! 17 17 refl refl $ gone ! 15 15 refl refl $
+        gone ! 13 13 refl refl $ gone ! 0 11 refl refl $ gone ! 9 9 refl refl $ gone ! 7 7 refl refl $
+        gone ! 5 5 refl refl $ gone ! 3 3 refl refl $ free0 ! $
         -- [the half of 'a's token; the other, with true; true; what s owns; …]
         move ! (1 ∷ []) $ split ! $ move ! (2 ∷ 0 ∷ []) $ use2 W (‵ (flft κ q)) (W .lfts .lft-join κ q) $
         owned ! D.the-row (Is D.the-row)

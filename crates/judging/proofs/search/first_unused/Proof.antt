@@ -1,6 +1,6 @@
 -- `judging::search::first_unused` meets its contract. Assumes nothing.
 use native.Mathlib.Omega.{arith}
-use borrow.Author.Tests.{eq-eqb, ne-eqb, le-leb, lt-leb}
+use borrow.Author.Tests.{eq-eqb, ne-eqb}
 use borrow.Author.Needs.{needs}
 use Rattle.judging.proofs.search.first_unused.Statement.{statement}
 use Rattle.judging.proofs.search.first_unused.Tie as tie
