@@ -10,25 +10,8 @@ use Rattle.rule.specs.State.{State}
 use Rattle.rule.specs.Calls.{lastTime, moved, drained, Call, request, advance, drain, requestRefusal, advanceRefusal, refusal, effect}
 use Rattle.rule.specs.View.{view, Shows, Promised}
 use Rattle.rule.specs.declared.Run.{Run}
-use Rattle.laws.specs.Sound.{Sound}
-use Rattle.laws.specs.Drains.{lastClock}
 use Rattle.laws.proofs.Refusals.{refused-stays, accepted-acts}
-use Rattle.steps.specs.Parts.{parts}
-use Rattle.engine.specs.Promises.{Apart, asked}
-use Rattle.steps.specs.declared.Cursor.{Cursor}
-
--- ---- a run taken apart
-
-pub apart-sound : (run : Run) (c : Cursor) → Sound (view run) → Apart run c
-    → Sound (parts (run .setup) c (run .queue) (run .owed) (run .given) (run .done))
-apart-sound run c h a = subst Sound (sym (a .shown)) h
-
-pub apart-clock : (run : Run) (c : Cursor) → Apart run c → c .clock ≡ run .clock
-apart-clock run c a = ap (λ (s : State). s .clock) (a .shown)
-
-pub apart-room : (run : Run) (c : Cursor) → Apart run c → run .clock + total (run .owed) ≤ lastClock
-    → c .clock + total (run .owed) ≤ lastClock
-apart-room run c a h = omega (arith, apart-clock run c a)
+use Rattle.engine.specs.Promises.{asked}
 
 -- ---- promises from states
 

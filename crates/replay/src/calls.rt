@@ -125,7 +125,8 @@ pub fn drain(run: Run) -> Moved
     requires { ⌜ MadeRun run ⌝ }
     ensures { λ r. ⌜ Promised run drain (callNumber (r .answer)) (r .run) ⌝ }
 {
-    let left = super::readings::total_owed(run);
+    let owed = run.owed;
+    let left = engine::total_of(&owed);
     let after = moved_to(run, run.clock + left);
     Moved {
         answer: CallAnswer::Accepted,
