@@ -77,7 +77,7 @@ pub fn request(run: Run, time: u32, task: u32, amount: u32) -> Moved
     requires { ⌜ MadeRun run ⌝ }
     ensures { λ r. ⌜ Promised run (request time task amount) (callNumber (r .answer)) (r .run) ⌝ }
 {
-    let early = engine::early_refusal(run.setup.count, run.clock, time, task, amount);
+    let early = requests::early_refusal(run.setup.count, run.clock, time, task, amount);
     if early != 0 {
         return Moved {
             answer: answer_of(early),

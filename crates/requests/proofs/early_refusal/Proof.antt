@@ -4,9 +4,9 @@ use mathlib.Core.Bool.{false}
 use lib.Dec.{ltb, leb}
 use borrow.Author.Tests.{lt-ltb, le-ltb, le-leb, lt-leb}
 use Rattle.lists.proofs.Testing.{within-below, within-above, within-holds}
-use Rattle.engine.specs.Promises.{earlyRefusal}
-use Rattle.engine.proofs.early_refusal.Statement.{statement}
-use Rattle.engine.proofs.early_refusal.Tie as tie
+use Rattle.requests.specs.Early.{earlyRefusal}
+use Rattle.requests.proofs.early_refusal.Statement.{statement}
+use Rattle.requests.proofs.early_refusal.Tie as tie
 
 -- the rows that a place has passed
 limit-passed : (c : tie.Else1) → ltb 4_000_000_000 (c .before .args .time) ≡ false
