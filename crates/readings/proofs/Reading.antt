@@ -1,6 +1,6 @@
 -- What the readings know of a made run: it counts at most 32 tasks, and taken apart its clock has room for what it owes.
 -- Assumes nothing.
-use Prim.Native.Nat.{ℕ, _+_, _≤_}
+use Prim.Native.Nat.{_+_, _≤_}
 use native.Mathlib.Omega.{arith}
 use Rattle.lists.specs.Lists.{total}
 use Rattle.rule.specs.View.{view, MadeRun}
