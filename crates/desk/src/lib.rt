@@ -62,7 +62,7 @@ pub extern "C" fn anduri_drain(run: Run) -> Move
 pub extern "C" fn anduri_clock(run: Run) -> u32
     ensures { λ r. ⌜ r ≡ view run .clock ⌝ }
 {
-    replay::readings::clock(run)
+    readings::clock(run)
 }
 
 #[no_mangle]
@@ -70,14 +70,14 @@ pub extern "C" fn anduri_total_owed(run: Run) -> u32
     requires { ⌜ MadeRun run ⌝ }
     ensures { λ r. ⌜ r ≡ total (view run .owed) ⌝ }
 {
-    replay::readings::total_owed(run)
+    readings::total_owed(run)
 }
 
 #[no_mangle]
 pub extern "C" fn anduri_idle(run: Run) -> u32
     ensures { λ r. ⌜ r ≡ view run .idle ⌝ }
 {
-    replay::readings::idle(run)
+    readings::idle(run)
 }
 
 #[no_mangle]
@@ -85,7 +85,7 @@ pub extern "C" fn anduri_owed(run: Run, task: u32) -> Read
     requires { ⌜ MadeRun run ⌝ }
     ensures { λ r. ⌜ r ≡ readFace (owedOf (view run) task) ⌝ }
 {
-    face::ticks_read(replay::readings::owed(run, task))
+    face::ticks_read(readings::owed(run, task))
 }
 
 #[no_mangle]
@@ -93,7 +93,7 @@ pub extern "C" fn anduri_given(run: Run, task: u32) -> Read
     requires { ⌜ MadeRun run ⌝ }
     ensures { λ r. ⌜ r ≡ readFace (givenOf (view run) task) ⌝ }
 {
-    face::ticks_read(replay::readings::given(run, task))
+    face::ticks_read(readings::given(run, task))
 }
 
 #[no_mangle]
@@ -101,7 +101,7 @@ pub extern "C" fn anduri_completed(run: Run, task: u32) -> Read
     requires { ⌜ MadeRun run ⌝ }
     ensures { λ r. ⌜ r ≡ readFace (completedOf (view run) task) ⌝ }
 {
-    face::completion_read(replay::readings::completed(run, task))
+    face::completion_read(readings::completed(run, task))
 }
 
 #[no_mangle]
@@ -109,7 +109,7 @@ pub extern "C" fn anduri_next(run: Run) -> NextDone
     requires { ⌜ MadeRun run ⌝ }
     ensures { λ r. ⌜ r ≡ nextFace (nextDone (view run)) ⌝ }
 {
-    face::next_read(replay::readings::next_done(run))
+    face::next_read(readings::next_done(run))
 }
 
 // ---- tables and logs

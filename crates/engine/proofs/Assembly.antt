@@ -1,7 +1,7 @@
 -- A run is taken apart, and put together with its queue from place 0 on. Assumes nothing.
 use Prim.Native.Nat.{ℕ}
 use native.Mathlib.Omega.{arith}
-use mathlib.Core.Path.{_≡_, refl, ap, _∙_}
+use mathlib.Core.Path.{_≡_, refl, sym, ap, _∙_, subst}
 use mathlib.Core.List.{List, _++_}
 use lib.ListN.{take, drop}
 use lib.Dec.{ltb}
@@ -71,6 +71,13 @@ module _ (r : Run) (T : Tidy r) where
           (λ e.
           ap (λ (x : ℕ). queueAt (r .setup) x (r .queued) (r .queue)) (H .robin e ∙ cond-same (ltb 0 (r .queued)) 0)
           ∙ queueAt-zero (r .setup) (r .queued) (r .queue))
+
+pub apart-sound : (run : Run) (c : Cursor) → Sound (view run) → Apart run c
+    → Sound (parts (run .setup) c (run .queue) (run .owed) (run .given) (run .done))
+apart-sound run c h a = subst Sound (sym (a .shown)) h
+
+pub apart-clock : (run : Run) (c : Cursor) → Apart run c → c .clock ≡ run .clock
+apart-clock run c a = ap (λ (s : State). s .clock) (a .shown)
 
 pub together : (s : Setup) (c : Cursor) (q q′ o g d : List ℕ) (r : Cursor) → Kept s c q → r ≡ straightTo s c
     → q′ ≡ queueAt s (c .head) (c .queued) q ++ drop (c .queued) q

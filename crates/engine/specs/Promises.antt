@@ -2,13 +2,11 @@
 -- run taken apart. Assumes nothing.
 use Prim.Native.Nat.{ℕ}
 use mathlib.Core.Path.{_≡_}
-use mathlib.Core.Bool.{cond, not}
-use mathlib.Core.List.{List, [], _∷_}
-use lib.Dec.{eqb, ltb, leb}
-use Rattle.lists.specs.Lists.{within}
-use Rattle.rule.specs.Refusal.{refuse, first}
+use mathlib.Core.Bool.{cond}
+use mathlib.Core.List.{List}
+use lib.Dec.{eqb}
 use Rattle.rule.specs.State.{State}
-use Rattle.rule.specs.Calls.{lastTime, mostAmount, moved, opened, requestRefusal}
+use Rattle.rule.specs.Calls.{moved, opened, requestRefusal}
 use Rattle.rule.specs.View.{view}
 use Rattle.rule.specs.declared.Setup.{Setup}
 use Rattle.rule.specs.declared.Run.{Run}
@@ -28,16 +26,6 @@ pub record Reached (s : Setup) (r : Cursor) (q : List ℕ) (aim after : State) :
   pub shown : after ≡ aim
 
 -- ---- a request
-
--- "Request: 10, 11, 12, 13, 14.": the refusals that are judged before the clock moves
-unfoldable pub earlyRefusal : ℕ → ℕ → ℕ → ℕ → ℕ → ℕ
-earlyRefusal count clock t k a =
-    first
-    (refuse 10 (ltb lastTime t)
-    ∷ refuse 11 (ltb t clock)
-    ∷ refuse 12 (leb count k)
-    ∷ refuse 13 (not (within 1 mostAmount a))
-    ∷ [])
 
 -- What a request leaves of the parts' state. Accepted, it has opened the task. Refused by 10 to 13, it has changed
 -- nothing. Refused by 14, it has moved the clock: who asked by value keeps the run, and a table stops.

@@ -13,7 +13,7 @@ ghost use Rattle.rule.specs.Calls.{moved, drained};
 ghost use Rattle.rule.specs.View.{view, Tidy, Shows};
 ghost use Rattle.laws.specs.Sound.{Sound};
 ghost use Rattle.steps.specs.Parts.{parts, Kept};
-ghost use Rattle.engine.specs.Promises.{Reached, earlyRefusal, Asks, Owing, SoonestIs, Apart};
+ghost use Rattle.engine.specs.Promises.{Reached, Asks, Owing, SoonestIs, Apart};
 
 // The clock moves to a time that is not before it.
 pub fn walk(
@@ -76,28 +76,6 @@ pub fn drain_on(
     walk(s, c, c.clock + left, queue, owed, given, done)
 }
 
-// The refusal of a request by 10 to 13, or 0.
-pub fn early_refusal(count: u32, clock: u32, time: u32, task: u32, amount: u32) -> u32
-    ensures { λ r. ⌜ r ≡ earlyRefusal count clock time task amount ⌝ }
-{
-    if 4_000_000_000 < time {
-        return 10;
-    }
-    if time < clock {
-        return 11;
-    }
-    if count <= task {
-        return 12;
-    }
-    if amount < 1 {
-        return 13;
-    }
-    if 1_000_000 < amount {
-        return 13;
-    }
-    0
-}
-
 // A request's refusal, 0 where it is accepted, and the cursor afterwards.
 pub struct Asked {
     pub refusal: u32,
@@ -123,7 +101,7 @@ pub fn ask(
         (parts s c (now (queue .entry)) (now (owed .entry)) (now (given .entry)) (now (done .entry)))
         (parts s (r .cursor) (now (queue .exit)) (now (owed .exit)) (now (given .exit)) (now (done .exit))) ⌝ }
 {
-    let refusal = early_refusal(s.count, c.clock, time, task, amount);
+    let refusal = requests::early_refusal(s.count, c.clock, time, task, amount);
     if refusal != 0 {
         return Asked { refusal, cursor: c };
     }

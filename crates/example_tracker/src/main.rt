@@ -1,7 +1,7 @@
 // Run A of document 01 followed on one run that is moved in place: a line after each call, and at the end the
 // completions.
 use libc::STDOUT_FILENO;
-use replay::readings::Completion;
+use readings::Completion;
 use rule::Run;
 ghost use Rattle.rule.specs.View.{MadeRun};
 
@@ -16,9 +16,9 @@ fn line(call: &[u8], run: Run)
 {
     io::write_all(STDOUT_FILENO, call);
     io::write_all(STDOUT_FILENO, b": clock");
-    number(replay::readings::clock(run));
+    number(readings::clock(run));
     io::write_all(STDOUT_FILENO, b", owed");
-    number(replay::readings::total_owed(run));
+    number(readings::total_owed(run));
     io::write_all(STDOUT_FILENO, b"\n");
 }
 
@@ -27,7 +27,7 @@ fn completion(run: Run, task: u32)
 {
     io::write_all(STDOUT_FILENO, b"task");
     number(task);
-    match replay::readings::completed(run, task) {
+    match readings::completed(run, task) {
         Completion::At(time) => {
             io::write_all(STDOUT_FILENO, b" done");
             number(time);

@@ -1,10 +1,10 @@
 // The answers as the C face tells them: plain numbers, 0 for what does not apply. No function here is exported.
 use judging::Judged;
+use readings::Completion;
+use readings::Next;
+use readings::TaskTicks;
 use replay::calls::CallAnswer;
 use replay::calls::Moved;
-use replay::readings::Completion;
-use replay::readings::Next;
-use replay::readings::TaskTicks;
 use replay::start::SetupAnswer;
 use rule::Run;
 use rule::Setup;
@@ -12,7 +12,8 @@ use table::TableAnswer;
 use tracker::start::restarted;
 ghost use mathlib.Core.Path.{_≡_};
 ghost use Rattle.judging.specs.Log.{judged};
-ghost use Rattle.replay.specs.Answers.{setupNumber, callNumber, ticksTold, completionTold, nextTold};
+ghost use Rattle.readings.specs.Answers.{ticksTold, completionTold, nextTold};
+ghost use Rattle.replay.specs.Answers.{setupNumber, callNumber};
 ghost use Rattle.tracker.specs.Restarted.{Restarted};
 ghost use Rattle.face.specs.Face.{moveFace, readFace, nextFace, outcomeFace, verdictFace};
 

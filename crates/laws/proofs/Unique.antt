@@ -31,6 +31,10 @@ use Rattle.laws.proofs.Demand3.{demand3}
 pub by-value {ℓ} : {A : Type ℓ} (v : A) → Determined (λ (x : A). x ≡ v)
 by-value v x y p q = p ∙ sym q
 
+-- what is told of the outcome is, and g finds the outcome again
+pub by-inverse : {A B : Type 0} (f : A → B) (g : B → A) → ((x : A) → g (f x) ≡ x) → (b : B) → Determined (λ (x : A). f x ≡ b)
+by-inverse f g h b x y p q = sym (h x) ∙ ap g (p ∙ sym q) ∙ h y
+
 -- a view of the outcome is, and the view is one to one on the outcomes that are good
 pub by-view {ℓ κ} : {A : Type ℓ} {B : Type ℓ} (see : A → B) (Good : A → Type κ)
     → ((x y : A) → Good x → Good y → see x ≡ see y → x ≡ y) → (v : B) → Determined (λ (x : A). Good x × (see x ≡ v))

@@ -15,8 +15,8 @@ use Rattle.laws.specs.Sound.{Sound}
 use Rattle.laws.proofs.Refusals.{request-accepted}
 use Rattle.laws.proofs.Made.{queue-short, request-sound}
 use Rattle.line.proofs.Rings.{clear-set}
-use Rattle.engine.specs.Promises.{earlyRefusal}
-use Rattle.engine.proofs.Requests.{refusal-now, refusal-open, refusal-none}
+use Rattle.requests.specs.Early.{earlyRefusal}
+use Rattle.requests.proofs.Early.{refusal-now, refusal-open, refusal-none}
 use Rattle.replay.proofs.Calling.{shows-then}
 
 -- ---- a task joins

@@ -1,15 +1,11 @@
--- Laws of setups and made runs that the functions here cite: a setup's number is at most 4, and a made run counts at most
--- 32 tasks. Assumes nothing.
+-- A setup's number is at most 4. Assumes nothing.
 use Prim.Native.Nat.{ℕ, _≤_}
 use native.Mathlib.Omega.{arith}
 use mathlib.Core.Bool.{not, _||_}
 use Rattle.lists.specs.Lists.{within}
 use Rattle.lists.proofs.Testing.{cond-both}
 use Rattle.rule.specs.Setups.{isPriority, isRoundRobin, sliceFits, bytesFit, setupRefusal}
-use Rattle.rule.specs.View.{view, MadeRun}
 use Rattle.rule.specs.declared.Setup.{Setup}
-use Rattle.rule.specs.declared.Run.{Run}
-use Rattle.laws.proofs.Made.{made-sound}
 
 pub setup-small : (p : Setup) → setupRefusal p ≤ 4
 unfolding setupRefusal
@@ -21,6 +17,3 @@ setup-small p =
   where
     Small : ℕ → Type 0
     Small n = n ≤ 4
-
-pub made-few : (r : Run) → MadeRun r → r .setup .count ≤ 32
-made-few r m = made-sound (view r) (m .made) .few

@@ -1,34 +1,23 @@
 -- No two different outcomes satisfy the promise of a public function here. In order: each definition that tells an answer has
--- one answer for what it tells; setups; calls; readings. Assumes nothing.
+-- one answer for what it tells; setups and calls. Assumes nothing.
 use Prim.Native.Nat.{ℕ}
-use mathlib.Core.Path.{_≡_, refl, sym, ap, _∙_}
+use mathlib.Core.Path.{_≡_, refl}
 use mathlib.Core.Bool.{cond}
 use lib.Dec.{eqb}
 use Rattle.rule.specs.Calls.{Call}
-use Rattle.rule.specs.Readings.{Reading, value, never, refused, Soonest, nothing, done}
 use Rattle.rule.specs.View.{Started, Promised, Determined}
 use Rattle.rule.specs.declared.Setup.{Setup}
 use Rattle.rule.specs.declared.Run.{Run}
-use Rattle.laws.proofs.Unique.{shows-determined}
-use Rattle.replay.specs.Answers.{setupNumber, callNumber, ticksTold, completionTold, nextTold}
+use Rattle.laws.proofs.Unique.{by-inverse, shows-determined}
+use Rattle.replay.specs.Answers.{setupNumber, callNumber}
 use Rattle.replay.specs.declared.start.Start.{Start}
 use Rattle.replay.specs.declared.start.SetupAnswer.{SetupAnswer}
 use Rattle.replay.specs.declared.start.SetupAnswer.the-variants as setup
 use Rattle.replay.specs.declared.calls.Moved.{Moved}
 use Rattle.replay.specs.declared.calls.CallAnswer.{CallAnswer}
 use Rattle.replay.specs.declared.calls.CallAnswer.the-variants as call
-use Rattle.replay.specs.declared.readings.TaskTicks.{TaskTicks}
-use Rattle.replay.specs.declared.readings.TaskTicks.the-variants as ticks
-use Rattle.replay.specs.declared.readings.Completion.{Completion}
-use Rattle.replay.specs.declared.readings.Completion.the-variants as completion
-use Rattle.replay.specs.declared.readings.Next.{Next}
-use Rattle.replay.specs.declared.readings.Next.the-variants as next
 
 -- ---- one answer for what is told
-
--- what f tells is told of one answer, if g finds it again
-by-inverse : {A B : Type 0} (f : A → B) (g : B → A) → ((x : A) → g (f x) ≡ x) → (b : B) → Determined (λ (x : A). f x ≡ b)
-by-inverse f g h b x y p q = sym (h x) ∙ ap g (p ∙ sym q) ∙ h y
 
 abbrev setupAnswer : ℕ → SetupAnswer
 setupAnswer n =
@@ -86,41 +75,3 @@ call-determined run c x y a b = λ i. record { answer = answers i; run = runs i 
 
     runs : x .run ≡ y .run
     runs = shows-determined _ (x .run) (y .run) (a .run) (b .run)
-
--- ---- readings
-
-pub ticks-determined : (v : Reading) → Determined (λ (r : TaskTicks). ticksTold r ≡ v)
-ticks-determined = by-inverse ticksTold found again
-  where
-    found : Reading → TaskTicks
-    found (value n) = ticks.Ticks n
-    found never = ticks.NoSuchTask
-    found (refused n) = ticks.NoSuchTask
-
-    again : (r : TaskTicks) → found (ticksTold r) ≡ r
-    again (ticks.Ticks n) = refl
-    again ticks.NoSuchTask = refl
-
-pub completion-determined : (v : Reading) → Determined (λ (r : Completion). completionTold r ≡ v)
-completion-determined = by-inverse completionTold found again
-  where
-    found : Reading → Completion
-    found (value n) = completion.At n
-    found never = completion.Never
-    found (refused n) = completion.NoSuchTask
-
-    again : (r : Completion) → found (completionTold r) ≡ r
-    again (completion.At n) = refl
-    again completion.Never = refl
-    again completion.NoSuchTask = refl
-
-pub next-determined : (v : Soonest) → Determined (λ (r : Next). nextTold r ≡ v)
-next-determined = by-inverse nextTold found again
-  where
-    found : Soonest → Next
-    found (done k t) = next.Done k t
-    found nothing = next.Nothing
-
-    again : (r : Next) → found (nextTold r) ≡ r
-    again (next.Done k t) = refl
-    again next.Nothing = refl

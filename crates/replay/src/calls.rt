@@ -77,7 +77,7 @@ pub fn request(run: Run, time: u32, task: u32, amount: u32) -> Moved
     requires { ⌜ MadeRun run ⌝ }
     ensures { λ r. ⌜ Promised run (request time task amount) (callNumber (r .answer)) (r .run) ⌝ }
 {
-    let early = engine::early_refusal(run.setup.count, run.clock, time, task, amount);
+    let early = requests::early_refusal(run.setup.count, run.clock, time, task, amount);
     if early != 0 {
         return Moved {
             answer: answer_of(early),
@@ -125,7 +125,8 @@ pub fn drain(run: Run) -> Moved
     requires { ⌜ MadeRun run ⌝ }
     ensures { λ r. ⌜ Promised run drain (callNumber (r .answer)) (r .run) ⌝ }
 {
-    let left = super::readings::total_owed(run);
+    let owed = run.owed;
+    let left = engine::total_of(&owed);
     let after = moved_to(run, run.clock + left);
     Moved {
         answer: CallAnswer::Accepted,

@@ -1,4 +1,3 @@
-// A run by value: setting it up, the calls on it, its readings.
+// A run by value: setting it up, and the calls on it.
 pub mod calls;
-pub mod readings;
 pub mod start;

@@ -25,7 +25,7 @@ use Rattle.steps.specs.Parts.{parts}
 use Rattle.steps.specs.declared.Cursor.{Cursor}
 use Rattle.engine.specs.Promises.{Asks, Reached}
 use Rattle.engine.specs.declared.Asked.{Asked}
-use Rattle.replay.proofs.Calling.{asked-accepted}
+use Rattle.engine.proofs.Requests.{asked-accepted}
 use Rattle.table.specs.Inside.{Fitting, Runs, settled}
 use Rattle.table.proofs.Taking.{Kept, kept-start, kept-refused, kept-step, kept-outcome, kept-many, kept-known, kept-each}
 

@@ -32,12 +32,12 @@ use Rattle.replay.proofs.start.SetupAnswer as B
 use Rattle.replay.proofs.start.SetupAnswer.Laws as B′
 use Rattle.replay.proofs.start.Start as F
 use Rattle.replay.proofs.start.Start.Laws as F′
-use Rattle.replay.proofs.readings.TaskTicks as K
-use Rattle.replay.proofs.readings.TaskTicks.Laws as K′
-use Rattle.replay.proofs.readings.Completion as E
-use Rattle.replay.proofs.readings.Completion.Laws as E′
-use Rattle.replay.proofs.readings.Next as N
-use Rattle.replay.proofs.readings.Next.Laws as N′
+use Rattle.readings.proofs.TaskTicks as K
+use Rattle.readings.proofs.TaskTicks.Laws as K′
+use Rattle.readings.proofs.Completion as E
+use Rattle.readings.proofs.Completion.Laws as E′
+use Rattle.readings.proofs.Next as N
+use Rattle.readings.proofs.Next.Laws as N′
 use Rattle.replay.proofs.calls.Moved as D
 use Rattle.replay.proofs.calls.Moved.Laws as D′
 use Rattle.walk_laws.proofs.Answered.{Answered}

@@ -1,6 +1,6 @@
 -- No two different outcomes satisfy the promise of a function on a run that is lent, and a refusal leaves the very run.
 -- The calls promise what those of `replay` do, so their theorems are cited; readings have theirs in
--- Rattle.replay.proofs.Unique, and leave the run by their type. In order: calls; setting up anew. Assumes nothing.
+-- Rattle.readings.proofs.Unique, and leave the run by their type. In order: calls; setting up anew. Assumes nothing.
 use mathlib.Core.Path.{_≡_, refl, sym, _∙_}
 use Rattle.lists.proofs.Testing.{equal-or}
 use Rattle.rule.specs.Setups.{setupRefusal}

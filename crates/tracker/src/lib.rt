@@ -2,5 +2,5 @@
 // over the same of a run by value. A function that ends in `_through` has plain parameters and lends a run of its
 // own to the call.
 pub mod calls;
-pub mod readings;
+pub mod reading;
 pub mod start;

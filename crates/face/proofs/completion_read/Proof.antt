@@ -1,8 +1,8 @@
 -- `face::completion_read` meets its contract, case by case. Assumes nothing.
 use mathlib.Core.Path.{sym, ap}
 use borrow.Author.Needs.{needs}
-use Rattle.replay.specs.Answers.{completionTold}
-use Rattle.replay.specs.declared.readings.Completion.{Completion}
+use Rattle.readings.specs.Answers.{completionTold}
+use Rattle.readings.specs.declared.Completion.{Completion}
 use Rattle.face.specs.Face.{readFace}
 use Rattle.face.proofs.completion_read.Statement.{statement}
 use Rattle.face.proofs.completion_read.Tie as tie

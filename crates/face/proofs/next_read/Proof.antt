@@ -1,8 +1,8 @@
 -- `face::next_read` meets its contract, case by case. Assumes nothing.
 use mathlib.Core.Path.{sym, ap}
 use borrow.Author.Needs.{needs}
-use Rattle.replay.specs.Answers.{nextTold}
-use Rattle.replay.specs.declared.readings.Next.{Next}
+use Rattle.readings.specs.Answers.{nextTold}
+use Rattle.readings.specs.declared.Next.{Next}
 use Rattle.face.specs.Face.{nextFace}
 use Rattle.face.proofs.next_read.Statement.{statement}
 use Rattle.face.proofs.next_read.Tie as tie

@@ -1,8 +1,8 @@
 -- `face::ticks_read` meets its contract, case by case. Assumes nothing.
 use mathlib.Core.Path.{sym, ap}
 use borrow.Author.Needs.{needs}
-use Rattle.replay.specs.Answers.{ticksTold}
-use Rattle.replay.specs.declared.readings.TaskTicks.{TaskTicks}
+use Rattle.readings.specs.Answers.{ticksTold}
+use Rattle.readings.specs.declared.TaskTicks.{TaskTicks}
 use Rattle.face.specs.Face.{readFace}
 use Rattle.face.proofs.ticks_read.Statement.{statement}
 use Rattle.face.proofs.ticks_read.Tie as tie

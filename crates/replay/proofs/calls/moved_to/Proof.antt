@@ -4,7 +4,8 @@ use mathlib.Core.Path.{ap, _∙_}
 use borrow.Author.Needs.{needs}
 use Rattle.rule.specs.State.{State}
 use Rattle.rule.specs.Calls.{moved}
-use Rattle.replay.proofs.Calling.{apart-sound, apart-clock, shows-then}
+use Rattle.engine.proofs.Assembly.{apart-sound, apart-clock}
+use Rattle.replay.proofs.Calling.{shows-then}
 use Rattle.replay.proofs.calls.moved_to.Statement.{statement}
 use Rattle.replay.proofs.calls.moved_to.Tie as tie
 

@@ -7,8 +7,8 @@ use borrow.Author.Needs.{needs}
 use Rattle.rule.specs.Calls.{Call, request}
 use Rattle.rule.specs.View.{view}
 use Rattle.laws.proofs.Made.{made-sound}
-use Rattle.engine.specs.Promises.{earlyRefusal}
-use Rattle.engine.proofs.Requests.{Passed, early-passed, early-between}
+use Rattle.requests.specs.Early.{earlyRefusal}
+use Rattle.requests.proofs.Early.{Passed, early-passed, early-between}
 use Rattle.replay.proofs.Calling.{promised-refused, promised-accepted}
 use Rattle.replay.proofs.Opening.{early-number, open-number, taken-number, taken-room, taken-shows}
 use Rattle.replay.proofs.calls.request.Statement.{statement}

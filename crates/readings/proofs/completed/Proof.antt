@@ -1,0 +1,27 @@
+-- `readings::completed` meets its contract: a made run counts at most 32 tasks. Assumes nothing.
+use native.Mathlib.Omega.{arith}
+use borrow.Author.Needs.{needs}
+use borrow.Author.Tests.{le-leb, lt-leb}
+use Rattle.readings.proofs.Reading.{made-few}
+use Rattle.readings.proofs.completed.Statement.{statement}
+use Rattle.readings.proofs.completed.Tie as tie
+
+returns : tie.Need-returns
+returns c = simp (le-leb _ _ (c .if1 .taken))
+
+mul-completion-at : tie.Need-mul-completion-at
+mul-completion-at c = search needs
+
+array-read-completion-at : tie.Need-array-read-completion-at
+array-read-completion-at c = omega (arith, made-few _ (c .before .before .before .before .pre))
+
+completion-at-requires : tie.Need-completion-at-requires
+completion-at-requires c κs = search needs
+
+returns-2 : tie.Need-returns-2
+returns-2 c = simp (lt-leb _ _ (c .before .if1 .left)) (c .completion-at .ensures)
+
+pub completed-spec : {M : Type 1} → statement M
+completed-spec =
+    tie.close
+    (tie.spec returns mul-completion-at array-read-completion-at completion-at-requires returns-2)
