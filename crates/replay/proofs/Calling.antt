@@ -3,18 +3,17 @@
 use Prim.Native.Nat.{ℕ, _+_, _-_, _≤_, _<_}
 use native.Mathlib.Omega.{arith}
 use mathlib.Core.Path.{_≡_, refl, sym, ap, _∙_, subst}
-use borrow.Author.Tests.{lt-ltb, le-ltb, eq-eqb}
+use borrow.Author.Tests.{lt-ltb, le-ltb}
 use Rattle.lists.specs.Lists.{total}
-use Rattle.lists.proofs.Testing.{cond-true}
 use Rattle.rule.specs.State.{State}
-use Rattle.rule.specs.Calls.{lastTime, moved, drained, Call, request, advance, drain, requestRefusal, advanceRefusal, refusal, effect}
+use Rattle.rule.specs.Calls.{lastTime, moved, drained, Call, advance, drain, advanceRefusal, refusal, effect}
 use Rattle.rule.specs.View.{view, Shows, Promised}
 use Rattle.rule.specs.declared.Run.{Run}
 use Rattle.laws.specs.Sound.{Sound}
 use Rattle.laws.specs.Drains.{lastClock}
 use Rattle.laws.proofs.Refusals.{refused-stays, accepted-acts}
 use Rattle.steps.specs.Parts.{parts}
-use Rattle.engine.specs.Promises.{Apart, asked}
+use Rattle.engine.specs.Promises.{Apart}
 use Rattle.steps.specs.declared.Cursor.{Cursor}
 
 -- ---- a run taken apart
@@ -44,12 +43,6 @@ pub promised-accepted : (run : Run) (c : Call) (n m : ℕ) (r : Run) → n ≡ m
     → Shows r (effect (view run) c) → Promised run c n r
 promised-accepted run c n m r f e z h =
     record { answer = f ∙ e; run = shows-then h (sym (accepted-acts (view run) c (sym e ∙ z))) }
-
--- ---- requests
-
-pub asked-accepted : (s : State) (t k a : ℕ) → requestRefusal s t k a ≡ 0 → asked s t k a ≡ effect s (request t k a)
-unfolding asked effect
-asked-accepted s t k a z = cond-true _ _ (eq-eqb (requestRefusal s t k a) 0 z)
 
 -- ---- advances
 

@@ -1,7 +1,7 @@
--- `table::one_of` meets its contract. Assumes nothing.
+-- `rows::one_of` meets its contract. Assumes nothing.
 use borrow.Author.Tests.{eq-eqb, ne-eqb}
-use Rattle.table.proofs.one_of.Statement.{statement}
-use Rattle.table.proofs.one_of.Tie as tie
+use Rattle.rows.proofs.one_of.Statement.{statement}
+use Rattle.rows.proofs.one_of.Tie as tie
 
 returns : tie.Need-returns
 returns c = simp (eq-eqb _ _ (c .if1 .taken))

@@ -1,11 +1,11 @@
--- `table::put` meets its contract. The invariant: the first i entries are written, and no others. Assumes nothing.
+-- `rows::put` meets its contract. The invariant: the first i entries are written, and no others. Assumes nothing.
 use borrow.Author.Needs.{needs}
 use Prim.Native.Nat.{_-_}
 use native.Mathlib.Omega.{arith}
 use lib.ListN.{length}
-use Rattle.table.proofs.Putting.{Putting, putting-start, putting-step, putting-end}
-use Rattle.table.proofs.put.Statement.{statement}
-use Rattle.table.proofs.put.Tie as tie
+use Rattle.rows.proofs.Putting.{Putting, putting-start, putting-step, putting-end}
+use Rattle.rows.proofs.put.Statement.{statement}
+use Rattle.rows.proofs.put.Tie as tie
 
 abbrev Inv-loop : tie.InvT-loop
 Inv-loop tasks noted result₀ last done i₀ result i = Putting tasks last done noted result₀ result i

@@ -1,4 +1,4 @@
--- `table::run_rows` meets its contract. The invariant: `Going`, what is known of the parts and of every row's completion after
+-- `rows::run_rows` meets its contract. The invariant: `Going`, what is known of the parts and of every row's completion after
 -- the first i rows. Assumes nothing.
 use Prim.Native.Nat.{_-_}
 use native.Mathlib.Omega.{arith}
@@ -6,9 +6,9 @@ use denote.Ref.{now}
 use lib.ListN.{length}
 use Rattle.lists.specs.Lists.{at}
 use borrow.Author.Needs.{needs}
-use Rattle.table.proofs.Running.{Going, going-start, going-known, going-step, going-refused, going-room, going-mark, going-end}
-use Rattle.table.proofs.run_rows.Statement.{statement}
-use Rattle.table.proofs.run_rows.Tie as tie
+use Rattle.rows.proofs.Running.{Going, going-start, going-known, going-step, going-refused, going-room, going-mark, going-end}
+use Rattle.rows.proofs.run_rows.Statement.{statement}
+use Rattle.rows.proofs.run_rows.Tie as tie
 
 abbrev Inv-loop : tie.InvT-loop
 Inv-loop setup times tasks amounts noted₀ queue₀ owed₀ given₀ done₀ last₀ cursor₀ i₀ noted queue owed given done last cursor i =

@@ -25,9 +25,9 @@ use Rattle.steps.specs.Parts.{parts}
 use Rattle.steps.specs.declared.Cursor.{Cursor}
 use Rattle.engine.specs.Promises.{Asks, Reached}
 use Rattle.engine.specs.declared.Asked.{Asked}
-use Rattle.replay.proofs.Calling.{asked-accepted}
-use Rattle.table.specs.Inside.{Fitting, Runs, settled}
-use Rattle.table.proofs.Taking.{Kept, kept-start, kept-refused, kept-step, kept-outcome, kept-many, kept-known, kept-each}
+use Rattle.engine.proofs.Requests.{asked-taken}
+use Rattle.rows.specs.Promises.{Fitting, Runs, settled}
+use Rattle.rows.proofs.Taking.{Kept, kept-start, kept-refused, kept-step, kept-outcome, kept-many, kept-known, kept-each}
 
 -- ---- a fresh run in parts
 
@@ -128,10 +128,10 @@ module _ (p : Setup) (ts ks ms noted₀ : List ℕ) where
             omega (arith, G .sound .few)
 
         called : parts p (r .cursor) q′ o′ g′ d′ ≡ call (parts p c q o g d) row
-        unfolding refusal
+        unfolding refusal effect
         called =
             A .left .shown
-            ∙ asked-accepted (parts p c q o g d) (at ts i) (at ks i) (at ms i) accepted
+            ∙ asked-taken (parts p c q o g d) (at ts i) (at ks i) (at ms i) accepted
             ∙ sym (accepted-acts (parts p c q o g d) row accepted)
 
         pub going-step : Going (r .cursor) q′ o′ g′ d′ (set last (at ks i) (i + 1))

@@ -11,7 +11,7 @@ use Rattle.rule.specs.State.{State}
 use Rattle.rule.specs.Calls.{Call}
 use Rattle.rule.specs.Table.{Outcome, refused, finished, completions, outcomeFrom}
 use Rattle.rule.specs.declared.Setup.{Setup}
-use Rattle.table.specs.declared.Ran.{Ran}
+use Rattle.rows.specs.declared.Ran.{Ran}
 
 -- Row j's completion: the task's latest at the end if the row is its task's last, else what was noted when the task was
 -- requested again. `last` has each task's last row, and `noted` an entry for each row.

@@ -18,7 +18,7 @@ use Rattle.rule.specs.State.{State}
 use Rattle.rule.specs.Calls.{moved, drained, opened, Call, request, effect, refusal, call, calls}
 use Rattle.rule.specs.Table.{Outcome, refused, finished, completion, completions, unlessRefused, outcomeFrom, rows}
 use Rattle.laws.proofs.Refusals.{accepted-acts}
-use Rattle.table.specs.Inside.{settled}
+use Rattle.rows.specs.Promises.{settled}
 
 -- ---- an accepted request does not change the completions that the move has made
 
