@@ -90,10 +90,9 @@ module _ (p : Setup) (ts ks ms noted₀ : List ℕ) where
     pub going-room : c .clock + total o ≤ lastClock
     going-room = omega (arith, G .soon, owed-limit (parts p c q o g d) (G .sound))
 
-    -- the row that task k's note is for, and its place among the notes
-    pub going-mark : (k : ℕ) → i < length ts → (at last k < length noted) × (at last k ≤ 1_024)
-    going-mark k h =
-        (omega (arith, G .rows .marks k, G .rows .room, F .room), omega (arith, G .rows .marks k, F .few))
+    -- the row that task k's note is for has a place among the notes
+    pub going-mark : (k : ℕ) → i < length ts → at last k < length noted
+    going-mark k h = omega (arith, G .rows .marks k, G .rows .room, F .room)
 
     module _ (h : i < length ts) (r : Asked) {q′ o′ g′ d′ : List ℕ}
         (A : Asks p (at ts i) (at ks i) (at ms i) r q′ (parts p c q o g d) (parts p (r .cursor) q′ o′ g′ d′)) where
@@ -134,11 +133,12 @@ module _ (p : Setup) (ts ks ms noted₀ : List ℕ) where
             ∙ asked-taken (parts p c q o g d) (at ts i) (at ks i) (at ms i) accepted
             ∙ sym (accepted-acts (parts p c q o g d) row accepted)
 
-        pub going-step : Going (r .cursor) q′ o′ g′ d′ (set last (at ks i) (i + 1))
-            (set noted (at last (at ks i)) (at d′ (at ks i))) (i + 1)
-        going-step =
+        pub going-step : {last′ noted′ : List ℕ} → last′ ≡ set last (at ks i) (i + 1)
+            → noted′ ≡ set noted (at last (at ks i)) (at d′ (at ks i)) → Going (r .cursor) q′ o′ g′ d′ last′ noted′ (i + 1)
+        going-step e₁ e₂ =
             let t : r .cursor .clock ≡ at ts i =
             ap (λ (s : State). s .clock) called ∙ request-clock (parts p c q o g d) (at ts i) (at ks i) (at ms i) accepted in
+            rw (e₁, e₂)
             record {
               kept = A .left .kept;
               sound = A .left .sound;

@@ -3,8 +3,9 @@ use rule::Setup;
 ghost use mathlib.Core.Path.{_≡_};
 ghost use Prim.Native.Nat.{_≤_, _<_};
 ghost use mathlib.Core.Bool.{cond};
-ghost use lib.ListN.{length};
+ghost use lib.ListN.{length, set};
 ghost use lib.Dec.{eqb};
+ghost use Rattle.lists.specs.Lists.{at};
 ghost use Rattle.rule.specs.State.{fresh};
 ghost use Rattle.rule.specs.Table.{rows};
 ghost use Rattle.rows.specs.Promises.{Fitting, Known, Runs, Writes};
@@ -19,9 +20,27 @@ pub struct Ran {
     pub done: [u32; 32],
 }
 
+// The task is requested again: the completion of its row before is noted at that row's number, and this row is its last.
+fn note(task: usize, row: u32, done: &[u32; 32], last: &mut [u32; 32], noted: &mut [u32])
+    requires { ⌜ task < 32 ⌝ }
+    requires { ⌜ at (now last) task < length (now noted) ⌝ }
+    ensures { λ _. ⌜ now (last .exit) ≡ set (now (last .entry)) task row ⌝ }
+    ensures { λ _. ⌜ now (noted .exit) ≡ set (now (noted .entry)) (at (now (last .entry)) task) (at (now (done .entry)) task) ⌝ }
+{
+    let before = last[task] as usize;
+    noted[before] = done[task];
+    last[task] = row;
+}
+
 // The rows are requested in order. When a task is requested again, the completion of its row before is noted at that row's
 // number; entry 0 of the notes is for a task's first request.
-pub fn run_rows(setup: Setup, times: &[u32], tasks: &[u32], amounts: &[u32], noted: &mut [u32]) -> Ran
+pub fn run_rows(
+    setup: Setup,
+    times: &[u32],
+    tasks: &[u32],
+    amounts: &[u32],
+    noted: &mut [u32],
+) -> Ran
     requires { ⌜ Fitting setup (now times) (now tasks) (now amounts) (now noted) ⌝ }
     ensures { λ r. ⌜ Runs (fresh setup) (rows (now (times .entry)) (now (tasks .entry)) (now (amounts .entry))) (now (tasks .entry)) r (now (noted .entry)) (now (noted .exit)) ⌝ }
 {
@@ -61,10 +80,7 @@ pub fn run_rows(setup: Setup, times: &[u32], tasks: &[u32], amounts: &[u32], not
                 done,
             };
         }
-        let k = task as usize;
-        let before = last[k] as usize;
-        noted[before] = done[k];
-        last[k] = row;
+        note(task as usize, row, &done, &mut last, noted);
         cursor = asked.cursor;
         i += 1;
     }

@@ -60,85 +60,38 @@ returns c =
     let fitting = here .before .before .before .before .before .before .pre in
     going-refused _ _ _ _ _ fitting (here .before .loop .inv) (here .loop-test .taken) (asking .ask .result) (asking .ask .ensures) (c .if1 .taken) _ _
 
-cast-k : tie.Need-cast-k Inv-loop μ-loop
-cast-k c =
+cast-note : tie.Need-cast-note Inv-loop μ-loop
+cast-note c =
     let asking = c .before .before in
     let here = asking .before .before .before .before .before .before .before .before in
     let fitting = here .before .before .before .before .before .before .pre in
     omega (arith, going-known _ _ _ _ _ fitting (here .before .loop .inv) (here .loop-test .taken) (asking .ask .result) (asking .ask .ensures) (c .if1 .left))
 
-mul-before : tie.Need-mul-before Inv-loop μ-loop
-mul-before c =
-    let asking = c .before .before in
+note-requires : tie.Need-note-requires Inv-loop μ-loop
+note-requires c κs =
+    let asking = c .before .before .before .before .before in
     let here = asking .before .before .before .before .before .before .before .before in
-    let fitting = here .before .before .before .before .before .before .pre in
-    omega (arith, going-known _ _ _ _ _ fitting (here .before .loop .inv) (here .loop-test .taken) (asking .ask .result) (asking .ask .ensures) (c .if1 .left))
-
-array-read-before : tie.Need-array-read-before Inv-loop μ-loop
-array-read-before c =
-    let asking = c .before .before in
-    let here = asking .before .before .before .before .before .before .before .before in
-    let fitting = here .before .before .before .before .before .before .pre in
-    going-known _ _ _ _ _ fitting (here .before .loop .inv) (here .loop-test .taken) (asking .ask .result) (asking .ask .ensures) (c .if1 .left)
-
-cast-before : tie.Need-cast-before Inv-loop μ-loop
-cast-before c =
-    let here = c .before .before .before .before .before .before .before .before .before .before in
-    let mark = going-mark _ _ _ _ _ (here .before .before .before .before .before .before .pre) (here .before .loop .inv) (at (now (here .before .before .before .before .before .before .args .tasks)) (here .before .loop .i)) (here .loop-test .taken) in
-    omega (arith, mark .1)
-
-mul-noted : tie.Need-mul-noted Inv-loop μ-loop
-mul-noted c =
-    let asking = c .before .before in
-    let here = asking .before .before .before .before .before .before .before .before in
-    let fitting = here .before .before .before .before .before .before .pre in
-    omega (arith, going-known _ _ _ _ _ fitting (here .before .loop .inv) (here .loop-test .taken) (asking .ask .result) (asking .ask .ensures) (c .if1 .left))
-
-array-read-noted : tie.Need-array-read-noted Inv-loop μ-loop
-array-read-noted c =
-    let asking = c .before .before in
-    let here = asking .before .before .before .before .before .before .before .before in
-    let fitting = here .before .before .before .before .before .before .pre in
-    going-known _ _ _ _ _ fitting (here .before .loop .inv) (here .loop-test .taken) (asking .ask .result) (asking .ask .ensures) (c .if1 .left)
-
-mul-noted-2 : tie.Need-mul-noted-2 Inv-loop μ-loop
-mul-noted-2 c =
-    let here = c .before .before .before .before .before .before .before .before .before .before in
-    let mark = going-mark _ _ _ _ _ (here .before .before .before .before .before .before .pre) (here .before .loop .inv) (at (now (here .before .before .before .before .before .before .args .tasks)) (here .before .loop .i)) (here .loop-test .taken) in
-    omega (arith, mark .1)
-
-slice-write-noted : tie.Need-slice-write-noted Inv-loop μ-loop
-slice-write-noted c =
-    let here = c .before .before .before .before .before .before .before .before .before .before in
-    let mark = going-mark _ _ _ _ _ (here .before .before .before .before .before .before .pre) (here .before .loop .inv) (at (now (here .before .before .before .before .before .before .args .tasks)) (here .before .loop .i)) (here .loop-test .taken) in
-    mark .0
-
-mul-last : tie.Need-mul-last Inv-loop μ-loop
-mul-last c =
-    let asking = c .before .before in
-    let here = asking .before .before .before .before .before .before .before .before in
-    let fitting = here .before .before .before .before .before .before .pre in
-    omega (arith, going-known _ _ _ _ _ fitting (here .before .loop .inv) (here .loop-test .taken) (asking .ask .result) (asking .ask .ensures) (c .if1 .left))
-
-array-write-last : tie.Need-array-write-last Inv-loop μ-loop
-array-write-last c =
-    let asking = c .before .before in
-    let here = asking .before .before .before .before .before .before .before .before in
-    let fitting = here .before .before .before .before .before .before .pre in
-    going-known _ _ _ _ _ fitting (here .before .loop .inv) (here .loop-test .taken) (asking .ask .result) (asking .ask .ensures) (c .if1 .left)
+    let fitting = here .before .before .before .before .before .before .pre in (
+      going-known _ _ _ _ _ fitting (here .before .loop .inv) (here .loop-test .taken) (asking .ask .result) (asking .ask .ensures) (c .before .before .before .if1 .left),
+      going-mark _ _ _ _ _ fitting (here .before .loop .inv) _ (here .loop-test .taken),
+    )
 
 add-i : tie.Need-add-i Inv-loop μ-loop
-add-i c = search needs
+add-i c =
+    let here = c .before .before .before .before .before .before .before .before .before .before .before .before .before .before .before .before .before in
+    omega (arith, here .loop-test .taken, here .before .before .before .before .before .before .pre .few)
 
 loop-less : tie.Need-loop-less Inv-loop μ-loop
 loop-less c = search needs
 
 loop-again : tie.Need-loop-again Inv-loop μ-loop
 loop-again c =
-    let asking = c .before .before .before in
+    let noting = c .before .before .before in
+    let asking = noting .before .before .before .before .before .before in
     let here = asking .before .before .before .before .before .before .before .before in
     let fitting = here .before .before .before .before .before .before .pre in
-    going-step _ _ _ _ _ fitting (here .before .loop .inv) (here .loop-test .taken) (asking .ask .result) (asking .ask .ensures) (c .before .if1 .left)
+    going-step _ _ _ _ _ fitting (here .before .loop .inv) (here .loop-test .taken) (asking .ask .result) (asking .ask .ensures) (noting .before .before .before .before .if1 .left)
+    (noting .note .ensures .0) (noting .note .ensures .1)
 
 drain-on-requires : tie.Need-drain-on-requires Inv-loop μ-loop
 drain-on-requires c κs =
@@ -171,16 +124,8 @@ run-rows-spec =
     ask-requires
     same-length
     returns
-    cast-k
-    mul-before
-    array-read-before
-    cast-before
-    mul-noted
-    array-read-noted
-    mul-noted-2
-    slice-write-noted
-    mul-last
-    array-write-last
+    cast-note
+    note-requires
     add-i
     loop-less
     loop-again
