@@ -5,8 +5,9 @@ use borrow.Author.Needs.{needs}
 use native.Mathlib.Omega.{arith}
 use lib.ListN.{length}
 use Rattle.text.specs.Text.{rowLines}
-use Rattle.text.specs.Writes.{Wrote}
-use Rattle.text.proofs.Writing.{wrote-nothing, wrote-then, rowLines-more, rowLines-none}
+use Rattle.cells.specs.Writes.{Wrote}
+use Rattle.cells.proofs.Writing.{wrote-nothing, wrote-then}
+use Rattle.text.proofs.Lines.{rowLines-more, rowLines-none}
 use Rattle.text.proofs.put_rows.Statement.{statement}
 use Rattle.text.proofs.put_rows.Tie as tie
 

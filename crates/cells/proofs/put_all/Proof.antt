@@ -1,13 +1,13 @@
--- `text::put_all` meets its contract. The invariant: the first i bytes stand there. Assumes nothing.
+-- `cells::put_all` meets its contract. The invariant: the first i bytes stand there. Assumes nothing.
 use Prim.Native.Nat.{_≤_, _-_, _+_}
 use mathlib.Core.Path.{_≡_}
 use borrow.Author.Needs.{needs}
 use native.Mathlib.Nat.{add-zero}
 use lib.ListN.{length, take}
-use Rattle.text.specs.Writes.{Wrote}
-use Rattle.text.proofs.Writing.{wrote-nothing, wrote-more, wrote-whole}
-use Rattle.text.proofs.put_all.Statement.{statement}
-use Rattle.text.proofs.put_all.Tie as tie
+use Rattle.cells.specs.Writes.{Wrote}
+use Rattle.cells.proofs.Writing.{wrote-nothing, wrote-more, wrote-whole}
+use Rattle.cells.proofs.put_all.Statement.{statement}
+use Rattle.cells.proofs.put_all.Tie as tie
 
 abbrev Inv-loop : tie.InvT-loop
 Inv-loop out₀ at s i₀ out i = (i ≤ length s) × (length out ≡ length out₀) × Wrote out₀ out at (take i s) (at + i)

@@ -1,9 +1,9 @@
--- `text::put_cell` meets its contract: the digits, and then the byte. Assumes nothing.
+-- `cells::put_cell` meets its contract: the digits, and then the byte. Assumes nothing.
 use native.Mathlib.Omega.{arith}
-use Rattle.text.proofs.Writing.{wrote-then}
+use Rattle.cells.proofs.Writing.{wrote-then}
 use borrow.Author.Needs.{needs}
-use Rattle.text.proofs.put_cell.Statement.{statement}
-use Rattle.text.proofs.put_cell.Tie as tie
+use Rattle.cells.proofs.put_cell.Statement.{statement}
+use Rattle.cells.proofs.put_cell.Tie as tie
 
 put-decimal-requires : tie.Need-put-decimal-requires
 put-decimal-requires c κs = search needs

@@ -1,6 +1,6 @@
 -- What a function that writes into a lent buffer promises: of every byte of the buffer, and of the place where it stopped.
 -- Assumes nothing.
-use Prim.Native.Nat.{ℕ, _+_, _≤_, _<_, _^_}
+use Prim.Native.Nat.{ℕ, _+_, _≤_}
 use mathlib.Core.Path.{_≡_}
 use mathlib.Core.List.{List, _++_}
 use lib.ListN.{length, take, drop}
@@ -16,15 +16,3 @@ pub record Wrote (before after : List ℕ) (at : ℕ) (s : List ℕ) (r : ℕ) :
 pub record WroteUpTo (most : ℕ) (before after : List ℕ) (at : ℕ) (s : List ℕ) (r : ℕ) : Type 0 where
   pub wrote : Wrote before after at s r
   pub short : r ≤ at + most
-
--- n has at most k decimal digits.
-pub record Digits (k n : ℕ) : Type 0 where
-  pub some : 0 < k
-  pub few : n < 10 ^ k
-
--- Four columns of one length, at most 1,024.
-pub record Columns (tasks asked amounts done : List ℕ) : Type 0 where
-  pub few : length tasks ≤ 1_024
-  pub asked-too : length asked ≡ length tasks
-  pub amounts-too : length amounts ≡ length tasks
-  pub done-too : length done ≡ length tasks

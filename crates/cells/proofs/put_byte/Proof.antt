@@ -1,8 +1,8 @@
--- `text::put_byte` meets its contract. Assumes nothing.
-use Rattle.text.proofs.Writing.{wrote-byte}
+-- `cells::put_byte` meets its contract. Assumes nothing.
+use Rattle.cells.proofs.Writing.{wrote-byte}
 use borrow.Author.Needs.{needs}
-use Rattle.text.proofs.put_byte.Statement.{statement}
-use Rattle.text.proofs.put_byte.Tie as tie
+use Rattle.cells.proofs.put_byte.Statement.{statement}
+use Rattle.cells.proofs.put_byte.Tie as tie
 
 slice-write-out : tie.Need-slice-write-out
 slice-write-out c = search needs

@@ -2,8 +2,8 @@
 use Prim.Native.Nat.{ℕ}
 use mathlib.Core.Path.{_≡_, sym, _∙_}
 use mathlib.Core.List.{List}
-use Rattle.text.specs.Writes.{WroteUpTo}
-use Rattle.text.proofs.Writing.{wrote-after}
+use Rattle.cells.specs.Writes.{WroteUpTo}
+use Rattle.cells.proofs.Writing.{wrote-after}
 
 module _ {most : ℕ} {before : List ℕ} {at : ℕ} {s : List ℕ} where
   pub place-unique : {b c : List ℕ} {r q : ℕ} → WroteUpTo most before b at s r → WroteUpTo most before c at s q → r ≡ q

@@ -1,17 +1,18 @@
--- `text::put_decimal` meets its contract: by recursion on the digits left. Assumes nothing.
+-- `cells::put_decimal` meets its contract: by recursion on the digits left. Assumes nothing.
 use Prim.Native.Nat.{ℕ, _<_}
 use native.Mathlib.Omega.{arith}
 use borrow.Author.Needs.{needs}
 use borrow.Fn.Kinds.{In}
 use borrow.Fn.PlainCycle.{Measures, is, falls, and}
-use Rattle.text.proofs.Writing.{wrote-then, digits-one, digits-two, digits-pair, digits-pairs, digits-fewer}
-use Rattle.text.proofs.put_decimal.Reads as put-decimal
-use Rattle.text.proofs.put_decimal.Kinds as put-decimal-kinds
-use Rattle.text.proofs.+put_decimal.Lts-put_decimal as put-decimal-lts
-use Rattle.text.proofs.put_byte.Reads as put-byte-reads
-use Rattle.text.proofs.put_pair.Reads as put-pair-reads
-use Rattle.text.proofs.+put_decimal.{statement}
-use Rattle.text.proofs.+put_decimal.Tie.{close}
+use Rattle.cells.proofs.Writing.{wrote-then}
+use Rattle.cells.proofs.Decimals.{digits-one, digits-two, digits-pair, digits-pairs, digits-fewer}
+use Rattle.cells.proofs.put_decimal.Reads as put-decimal
+use Rattle.cells.proofs.put_decimal.Kinds as put-decimal-kinds
+use Rattle.cells.proofs.+put_decimal.Lts-put_decimal as put-decimal-lts
+use Rattle.cells.proofs.put_byte.Reads as put-byte-reads
+use Rattle.cells.proofs.put_pair.Reads as put-pair-reads
+use Rattle.cells.proofs.+put_decimal.{statement}
+use Rattle.cells.proofs.+put_decimal.Tie.{close}
 
 abbrev μ-put-decimal : Measures 1 put-decimal-kinds.ps ℕ
 μ-put-decimal κs a = a .1 .1 .1 .0

@@ -1,8 +1,8 @@
--- `text::put_pair` meets its contract: one byte after the other. Assumes nothing.
+-- `cells::put_pair` meets its contract: one byte after the other. Assumes nothing.
 use borrow.Author.Needs.{needs}
-use Rattle.text.proofs.Writing.{wrote-then}
-use Rattle.text.proofs.put_pair.Statement.{statement}
-use Rattle.text.proofs.put_pair.Tie as tie
+use Rattle.cells.proofs.Writing.{wrote-then}
+use Rattle.cells.proofs.put_pair.Statement.{statement}
+use Rattle.cells.proofs.put_pair.Tie as tie
 
 returns : tie.Need-returns
 returns c =
