@@ -40,11 +40,17 @@ fn put_rows(
     ensures { λ r. ⌜ WroteUpTo (55 * length (now (tasks .entry))) (now (out .entry)) (now (out .exit)) at (rowLines (now (tasks .entry)) (now (asked .entry)) (now (amounts .entry)) (now (done .entry)) (length (now (tasks .entry)))) r ⌝ }
 {
     let mut p = at;
-    let mut i: u32 = 0;
-    let n = tasks.len() as u32;
-    while i < n {
-        let k = i as usize;
-        p = put_row(out, p, i + 1, tasks[k], asked[k], amounts[k], done[k]);
+    let mut i: usize = 0;
+    while i < tasks.len() {
+        p = put_row(
+            out,
+            p,
+            i as u32 + 1,
+            tasks[i],
+            asked[i],
+            amounts[i],
+            done[i],
+        );
         i += 1;
     }
     p
