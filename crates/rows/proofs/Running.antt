@@ -103,10 +103,10 @@ module _ (p : Setup) (ts ks ms noted₀ : List ℕ) where
       unfolding refusal
       number = A .answer
 
-      pub going-refused : (r .refusal ≡ 0 → ⊥) → (end : ℕ) (done : List ℕ)
+      pub going-refused : (r .refusal ≡ 0 → ⊥) → (done : List ℕ)
           → Runs (fresh p) (rows ts ks ms) ks
-          (record { refusal = r .refusal; row = i + 1; end = end; last = last; done = done }) noted₀ noted
-      going-refused z end done =
+          (record { refusal = r .refusal; end = i + 1; last = last; done = done }) noted₀ noted
+      going-refused z done =
           record {
             room = G .rows .room;
             stopped = λ y.
@@ -158,7 +158,7 @@ module _ (p : Setup) (ts ks ms noted₀ : List ℕ) where
     pub going-end : length ts ≤ i → (r : Cursor) {q′ o′ g′ d′ : List ℕ}
         → Reached p r q′ (drained (parts p c q o g d)) (parts p r q′ o′ g′ d′)
         → Runs (fresh p) (rows ts ks ms) ks
-        (record { refusal = 0; row = 0; end = r .clock; last = last; done = d′ }) noted₀ noted
+        (record { refusal = 0; end = r .clock; last = last; done = d′ }) noted₀ noted
     going-end h r {q′} {o′} {g′} {d′} D =
         let s = parts p c q o g d in
         let n = length noted₀ in

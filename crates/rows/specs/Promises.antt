@@ -40,7 +40,7 @@ pub record AllTaken (s : State) (cs : List Call) (ks : List ℕ) (r : Ran) (note
 -- The rows were run until one was refused, or all.
 pub record Runs (s : State) (cs : List Call) (ks : List ℕ) (r : Ran) (before noted : List ℕ) : Type 0 where
   pub room : length noted ≡ length before
-  pub stopped : (r .refusal ≡ 0 → ⊥) → outcomeFrom s cs ≡ refused (r .refusal) (r .row)
+  pub stopped : (r .refusal ≡ 0 → ⊥) → outcomeFrom s cs ≡ refused (r .refusal) (r .end)
   pub taken : r .refusal ≡ 0 → AllTaken s cs ks r noted
 
 -- The first entries of the result column are written, and no others.

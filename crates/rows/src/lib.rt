@@ -10,11 +10,10 @@ ghost use Rattle.rule.specs.State.{fresh};
 ghost use Rattle.rule.specs.Table.{rows};
 ghost use Rattle.rows.specs.Promises.{Fitting, Known, Runs, Writes};
 
-// The rows run: the refusal and the row that was refused, or 0; the end; each task's last row, counted from 1, or 0; and each
-// task's latest completion.
+// The rows run: the refusal or 0; where they ended, by the row that was refused or by the clock after the drain; each task's
+// last row or 0; and each task's latest completion. Rows count from 1.
 pub struct Ran {
     pub refusal: u32,
-    pub row: u32,
     pub end: u32,
     pub last: [u32; 32],
     pub done: [u32; 32],
@@ -74,8 +73,7 @@ pub fn run_rows(
         if asked.refusal != 0 {
             return Ran {
                 refusal: asked.refusal,
-                row,
-                end: 0,
+                end: row,
                 last,
                 done,
             };
@@ -87,7 +85,6 @@ pub fn run_rows(
     let end = engine::drain_on(setup, cursor, &mut queue, &mut owed, &mut given, &mut done);
     Ran {
         refusal: 0,
-        row: 0,
         end: end.clock,
         last,
         done,

@@ -15,10 +15,10 @@ use Rattle.table.specs.declared.TableAnswer.the-variants.{Finished, Refu
 
 module _ (s : State) (cs : List Call) (ks : List ℕ) (r : Ran) (noted₀ noted : List ℕ) (R : Runs s cs ks r noted₀ noted)
     (before : List ℕ) where
-  pub answer-refused : (r .refusal ≡ 0 → ⊥) → Answers (outcomeFrom s cs) before (Refused (r .refusal) (r .row)) before
+  pub answer-refused : (r .refusal ≡ 0 → ⊥) → Answers (outcomeFrom s cs) before (Refused (r .refusal) (r .end)) before
   unfolding written
   answer-refused z =
-      subst (λ (o : Outcome). Answers o before (Refused (r .refusal) (r .row)) before) (sym (R .stopped z))
+      subst (λ (o : Outcome). Answers o before (Refused (r .refusal) (r .end)) before) (sym (R .stopped z))
       record { answer = refl; column = refl }
 
   module _ (z : r .refusal ≡ 0) (after : List ℕ) (W : Writes ks (r .last) (r .done) noted before after)

@@ -50,7 +50,7 @@ fn run_noted(
 {
     let ran = rows::run_rows(setup, times, tasks, amounts, noted);
     if ran.refusal != 0 {
-        return TableAnswer::Refused(ran.refusal, ran.row);
+        return TableAnswer::Refused(ran.refusal, ran.end);
     }
     let last = ran.last;
     let done = ran.done;

@@ -58,7 +58,7 @@ returns c =
     let asking = c .before .before in
     let here = asking .before .before .before .before .before .before .before .before in
     let fitting = here .before .before .before .before .before .before .pre in
-    going-refused _ _ _ _ _ fitting (here .before .loop .inv) (here .loop-test .taken) (asking .ask .result) (asking .ask .ensures) (c .if1 .taken) _ _
+    going-refused _ _ _ _ _ fitting (here .before .loop .inv) (here .loop-test .taken) (asking .ask .result) (asking .ask .ensures) (c .if1 .taken) _
 
 cast-note : tie.Need-cast-note Inv-loop μ-loop
 cast-note c =
