@@ -19,7 +19,8 @@ pub struct Ran {
     pub done: [u32; 32],
 }
 
-// The task is requested again: the completion of its row before is noted at that row's number, and this row is its last.
+// A task is requested: the completion of its row before is noted at that row's number, or at 0 if it has none, and this row is
+// its last.
 fn note(task: usize, row: u32, done: &[u32; 32], last: &mut [u32; 32], noted: &mut [u32])
     requires { ⌜ task < 32 ⌝ }
     requires { ⌜ at (now last) task < length (now noted) ⌝ }
@@ -31,8 +32,7 @@ fn note(task: usize, row: u32, done: &[u32; 32], last: &mut [u32; 32], noted: &m
     last[task] = row;
 }
 
-// The rows are requested in order. When a task is requested again, the completion of its row before is noted at that row's
-// number; entry 0 of the notes is for a task's first request.
+// The rows are requested in order, up to the first that is refused; after the last the run drains.
 pub fn run_rows(
     setup: Setup,
     times: &[u32],
