@@ -9,7 +9,7 @@ use Rattle.lists.specs.Lists.{at}
 use Rattle.rule.specs.Setups.{setupRefusal}
 use Rattle.rule.specs.State.{State}
 use Rattle.rule.specs.Calls.{Call}
-use Rattle.rule.specs.Table.{Outcome, refused, finished, completions, outcomeFrom}
+use Rattle.rule.specs.Table.{refused, finished, completions, outcomeFrom}
 use Rattle.rule.specs.declared.Setup.{Setup}
 use Rattle.rows.specs.declared.Ran.{Ran}
 

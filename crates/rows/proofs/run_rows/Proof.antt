@@ -2,9 +2,7 @@
 -- the first i rows. Assumes nothing.
 use Prim.Native.Nat.{_-_}
 use native.Mathlib.Omega.{arith}
-use denote.Ref.{now}
 use lib.ListN.{length}
-use Rattle.lists.specs.Lists.{at}
 use borrow.Author.Needs.{needs}
 use Rattle.rows.proofs.Running.{Going, going-start, going-known, going-step, going-refused, going-room, going-mark, going-end}
 use Rattle.rows.proofs.run_rows.Statement.{statement}
