@@ -1,4 +1,4 @@
--- A number as it is printed. Assumes nothing.
+-- A number as the program of document 01 prints it. Assumes nothing.
 use Prim.Native.Nat.{ℕ, zero, suc, _+_, _/_, _%_}
 use mathlib.Core.Bool.{cond}
 use mathlib.Core.List.{List, [], _∷_, _++_}
