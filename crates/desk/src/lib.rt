@@ -14,7 +14,7 @@ ghost use Rattle.rule.specs.Readings.{owedOf, givenOf, completedOf, nextDone};
 ghost use Rattle.rule.specs.Table.{table};
 ghost use Rattle.rule.specs.View.{view, MadeRun, Started, Promised};
 ghost use Rattle.judging.specs.Log.{judged};
-ghost use Rattle.text.specs.Writes.{WroteUpTo};
+ghost use Rattle.cells.specs.Writes.{WroteUpTo};
 ghost use Rattle.report.specs.Report.{reportText};
 ghost use Rattle.face.specs.Face.{readFace, nextFace, verdictFace, FaceAnswers};
 

@@ -8,7 +8,7 @@ use borrow.Author.Tests.{ne-eqb}
 use Rattle.lists.specs.Lists.{at}
 use Rattle.lists.proofs.Testing.{cond-false}
 use Rattle.rule.specs.State.{State}
-use Rattle.rule.specs.Calls.{moved, opened, request, requestRefusal, effect}
+use Rattle.rule.specs.Calls.{moved, opened, requestRefusal}
 use Rattle.rule.specs.declared.Setup.{Setup}
 use Rattle.laws.specs.Sound.{Sound}
 use Rattle.laws.proofs.Refusals.{request-accepted}
@@ -40,13 +40,9 @@ module _ (s : State) (t k a : ℕ) where
   unfolding asked
   asked-open e = rw e
 
-  asked-taken : requestRefusal s t k a ≡ 0 → asked s t k a ≡ opened (moved s t) k a
+  pub asked-taken : requestRefusal s t k a ≡ 0 → asked s t k a ≡ opened (moved s t) k a
   unfolding asked
   asked-taken e = rw e
-
-  pub asked-accepted : requestRefusal s t k a ≡ 0 → asked s t k a ≡ effect s (request t k a)
-  unfolding effect
-  asked-accepted e = asked-taken e
 
 -- ---- the promise
 

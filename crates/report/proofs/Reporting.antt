@@ -19,7 +19,7 @@ use Rattle.table.specs.Answers.{Answers, answerOf}
 use Rattle.table.specs.declared.TableAnswer.{TableAnswer}
 use Rattle.table.specs.declared.TableAnswer.the-variants.{Finished, Refused}
 use Rattle.text.specs.Text.{tableText, columnsText, refusedLine}
-use Rattle.text.specs.Writes.{Columns}
+use Rattle.text.specs.Inner.{Columns}
 use Rattle.text.proofs.Columns.{columnsText-fit}
 use Rattle.report.specs.Report.{tablePrinted}
 

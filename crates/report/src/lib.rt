@@ -11,7 +11,7 @@ ghost use Rattle.rule.specs.State.{fresh};
 ghost use Rattle.rule.specs.Table.{rows, outcomeFrom, columnRefusal};
 ghost use Rattle.judging.specs.Log.{Reads};
 ghost use Rattle.log.specs.Records.{askedTimes};
-ghost use Rattle.text.specs.Writes.{WroteUpTo};
+ghost use Rattle.cells.specs.Writes.{WroteUpTo};
 ghost use Rattle.report.specs.Filled.{recordIn, Roomy, AllFilled};
 ghost use Rattle.report.specs.Report.{tablePrinted, reportText};
 

@@ -12,7 +12,7 @@ use Rattle.rule.specs.declared.Setup.{Setup}
 use Rattle.laws.specs.Rows.{Tabled}
 use Rattle.laws.proofs.Tables.{table-tabled}
 use Rattle.table.specs.Answers.{Answers}
-use Rattle.table.specs.Inside.{Fitting}
+use Rattle.rows.specs.Promises.{Fitting}
 use Rattle.table.specs.declared.TableAnswer.{TableAnswer}
 use Rattle.table.specs.declared.TableAnswer.the-variants.{Refused}
 

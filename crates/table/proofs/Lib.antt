@@ -1,5 +1,3 @@
-pub mod Taking
-pub mod Running
-pub mod Putting
+pub mod Answering
 pub mod Columns
 pub mod Unique

@@ -8,7 +8,7 @@ use lib.Dec.{eqb, leb}
 use borrow.Author.Tests.{eq-eqb, eqb-true, le-leb, leb-true}
 use Rattle.lists.proofs.Testing.{and-true}
 use Rattle.text.specs.Text.{tableText, columnsFit, columnsText}
-use Rattle.text.specs.Writes.{Columns}
+use Rattle.text.specs.Inner.{Columns}
 
 module _ (t a m d : List ℕ) where
   pub columns-fit : columnsFit (length t) (length a) (length m) (length d) ≡ true → Columns t a m d

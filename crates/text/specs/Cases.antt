@@ -4,7 +4,8 @@ use Prim.Native.Nat.{ℕ}
 use Prim.Native.String.{String}
 use mathlib.Core.Bool.{cond}
 use mathlib.Core.List.{List, [], _∷_}
-use Rattle.text.specs.Text.{bytes, decimal, columnsFit, columnsText, refusedLine}
+use Rattle.cells.specs.Decimal.{decimal}
+use Rattle.text.specs.Text.{bytes, columnsFit, columnsText, refusedLine}
 
 pub record Case : Type 0 where
   pub found : List ℕ

@@ -1,3 +1,3 @@
 pub mod Text
-pub mod Writes
+pub mod Inner
 pub mod Cases

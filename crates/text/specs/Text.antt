@@ -1,12 +1,14 @@
--- Document 01, "The printing program": what is printed, as bytes. Assumes nothing.
-use Prim.Native.Nat.{ℕ, zero, suc, _+_, _/_, _%_}
+-- Document 01, "The printing program": what is printed, as bytes. A number is printed as `decimal` of cells/specs. Assumes
+-- nothing.
+use Prim.Native.Nat.{ℕ, zero, suc, _+_}
 use Prim.Native.Char.{code}
 use Prim.Native.String.{String, [] as none, _∷_ as _then_}
 use mathlib.Core.Bool.{Bool, cond, _&&_}
 use mathlib.Core.List.{List, [], _∷_, _++_}
 use lib.ListN.{length}
-use lib.Dec.{eqb, leb, ltb}
+use lib.Dec.{eqb, leb}
 use Rattle.lists.specs.Lists.{at}
+use Rattle.cells.specs.Decimal.{decimal}
 
 -- ---- words and lines
 
@@ -14,19 +16,6 @@ use Rattle.lists.specs.Lists.{at}
 abbrev pub bytes : String → List ℕ
 bytes none = []
 bytes (c then s) = code c ∷ bytes s
-
--- a number in decimal, of which there are at most k digits
-unfoldable pub digits : ℕ → ℕ → List ℕ
-digits zero n = []
-digits (suc k) n = cond (ltb n 10) ((48 + n) ∷ []) (digits k (n / 10) ++ ((48 + n % 10) ∷ []))
-
--- the two digits of a number below 100
-abbrev pub pair : ℕ → List ℕ
-pair n = (48 + n / 10) ∷ (48 + n % 10) ∷ []
-
--- a 32-bit number in decimal
-abbrev pub decimal : ℕ → List ℕ
-decimal n = digits 10 n
 
 -- words with one blank between two, and a newline
 abbrev pub line : List (List ℕ) → List ℕ

@@ -12,7 +12,8 @@ use Rattle.judging.specs.Blocks.{lengthFits, checkFits, placeFits, setupIn, rec
 use Rattle.judging.specs.Log.{blockRefusal, judgedFrom, judged}
 use Rattle.log.specs.Records.{entries, columnFrom, column, found, blockAsked, stretch}
 use Rattle.reader.specs.Reading.{takenAt, setupAt, nexts}
-use Rattle.text.specs.Text.{digits, rowLine, rowLines, endLine, tableText, refusedLine}
+use Rattle.cells.specs.Decimal.{digits}
+use Rattle.text.specs.Text.{rowLine, rowLines, endLine, tableText, refusedLine}
 use Rattle.report.specs.Report.{logOutcome, tablePrinted, printed, reportText}
 use Rattle.worked.specs.Made.{Case}
 use Rattle.worked.specs.Limits.{lengths, checks, places, layout, records}

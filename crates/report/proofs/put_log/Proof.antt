@@ -3,7 +3,7 @@ use mathlib.Core.Path.{sym}
 use borrow.Author.Needs.{needs}
 use denote.Ref.{now}
 use lib.Seq.{length-take-le}
-use Rattle.text.proofs.Writing.{wrote-same-upto}
+use Rattle.cells.proofs.Writing.{wrote-same-upto}
 use Rattle.report.proofs.Logs.{log-setup, log-columns, log-text, times-room, tasks-room, amounts-room}
 use Rattle.report.proofs.put_log.Statement.{statement}
 use Rattle.report.proofs.put_log.Tie as tie

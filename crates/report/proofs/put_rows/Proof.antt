@@ -1,7 +1,7 @@
 -- `report::put_rows` meets its contract: what `table` answers is put as text. Assumes nothing.
 use mathlib.Core.Path.{_≡_, refl}
 use borrow.Author.Needs.{needs}
-use Rattle.text.proofs.Writing.{wrote-same-upto}
+use Rattle.cells.proofs.Writing.{wrote-same-upto}
 use Rattle.report.proofs.Reporting.{text-refused, after-room, after-part, text-finished}
 use Rattle.report.proofs.put_rows.Statement.{statement}
 use Rattle.report.proofs.put_rows.Tie as tie

@@ -4,7 +4,7 @@ use denote.Ref.{now}
 use lib.ListN.{length}
 use Rattle.laws.specs.Rows.{Tabled}
 use Rattle.table.proofs.Columns.{columns-tabled, columns-fitting}
-use Rattle.table.proofs.Putting.{answer-refused, answer-finished}
+use Rattle.table.proofs.Answering.{answer-refused, answer-finished}
 use Rattle.table.proofs.run_noted.Statement.{statement}
 use Rattle.table.proofs.run_noted.Tie as tie
 

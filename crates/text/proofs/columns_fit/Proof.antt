@@ -1,5 +1,4 @@
 -- `text::columns_fit` meets its contract. Assumes nothing.
-use native.Mathlib.Omega.{arith}
 use borrow.Author.Tests.{eq-eqb, ne-eqb}
 use Rattle.text.specs.Text.{columnsFit}
 use Rattle.text.proofs.columns_fit.Statement.{statement}

@@ -1,6 +1,7 @@
 -- `text::put_row` meets its contract: five cells. Assumes nothing.
 use native.Mathlib.Omega.{arith}
-use Rattle.text.proofs.Writing.{wrote-then, wrote-same, rowLine-cells}
+use Rattle.cells.proofs.Writing.{wrote-then, wrote-same}
+use Rattle.text.proofs.Lines.{rowLine-cells}
 use borrow.Author.Needs.{needs}
 use Rattle.text.proofs.put_row.Statement.{statement}
 use Rattle.text.proofs.put_row.Tie as tie

@@ -5,30 +5,27 @@ use borrow.Author.Needs.{needs}
 use native.Mathlib.Omega.{arith}
 use lib.ListN.{length}
 use Rattle.text.specs.Text.{rowLines}
-use Rattle.text.specs.Writes.{Wrote}
-use Rattle.text.proofs.Writing.{wrote-nothing, wrote-then, rowLines-more, rowLines-none}
+use Rattle.cells.specs.Writes.{Wrote}
+use Rattle.cells.proofs.Writing.{wrote-nothing, wrote-then}
+use Rattle.text.proofs.Lines.{rowLines-more, rowLines-none}
 use Rattle.text.proofs.put_rows.Statement.{statement}
 use Rattle.text.proofs.put_rows.Tie as tie
 
 abbrev Inv-loop : tie.InvT-loop
-Inv-loop out₀ at tasks asked amounts done p₀ i₀ n out p i =
-    (i ≤ n)
-    × (n ≡ length tasks)
+Inv-loop out₀ at tasks asked amounts done p₀ i₀ out p i =
+    (i ≤ length tasks)
     × (length out ≡ length out₀)
     × (p ≤ at + 55 * i)
     × Wrote out₀ out at (rowLines tasks asked amounts done i) p
 
 abbrev μ-loop : tie.MeasureT-loop
-μ-loop out₀ at tasks asked amounts done p₀ i₀ n out p i = n - i
-
-cast-n : tie.Need-cast-n Inv-loop μ-loop
-cast-n c = search needs
+μ-loop out₀ at tasks asked amounts done p₀ i₀ out p i = length tasks - i
 
 loop-holds : tie.Need-loop-holds Inv-loop μ-loop
-loop-holds c = (search needs, search needs, search needs, search needs, rw (rowLines-none _ _ _ _) (wrote-nothing _ _))
+loop-holds c = (search needs, search needs, search needs, rw (rowLines-none _ _ _ _) (wrote-nothing _ _))
 
-cast-k : tie.Need-cast-k Inv-loop μ-loop
-cast-k c = search needs
+cast-put-row : tie.Need-cast-put-row Inv-loop μ-loop
+cast-put-row c = search needs
 
 add-put-row : tie.Need-add-put-row Inv-loop μ-loop
 add-put-row c = search needs
@@ -70,7 +67,7 @@ loop-again : tie.Need-loop-again Inv-loop μ-loop
 loop-again c =
     let l = c .before .before .before .before .before .before .before .before .before .loop in
     let w = c .before .before .put-row .ensures in
-    (search needs, search needs, search needs, omega (arith, w .short, l .inv .3), rw rowLines-more (wrote-then (l .inv .4) (w .wrote)))
+    (search needs, search needs, omega (arith, w .short, l .inv .2), rw rowLines-more (wrote-then (l .inv .3) (w .wrote)))
 
 same-length : tie.Need-same-length Inv-loop μ-loop
 same-length c = search needs
@@ -79,7 +76,7 @@ returns : tie.Need-returns Inv-loop μ-loop
 returns c =
     let l = c .before .loop in
     let e : l .i ≡ length (c .before .before .before .before .before .before .before .args .tasks .now) = omega arith in
-    record { wrote = rw (← e) (l .inv .4); short = search needs }
+    record { wrote = rw (← e) (l .inv .3); short = search needs }
 
 pub put-rows-spec : {M : Type 1} → statement M
 put-rows-spec =
@@ -87,9 +84,8 @@ put-rows-spec =
     (tie.spec
     Inv-loop
     μ-loop
-    cast-n
     loop-holds
-    cast-k
+    cast-put-row
     add-put-row
     mul-put-row
     shared-slice-read-put-row

@@ -2,7 +2,7 @@
 use native.Mathlib.Omega.{arith}
 use mathlib.Core.Path.{sym, _∙_}
 use borrow.Author.Tests.{not-true, not-false}
-use Rattle.text.proofs.Writing.{wrote-nothing, wrote-same, wrote-same-upto}
+use Rattle.cells.proofs.Writing.{wrote-nothing, wrote-same, wrote-same-upto}
 use Rattle.text.proofs.Columns.{columns-fit, columnsText-fit, columnsText-other}
 use borrow.Author.Needs.{needs}
 use Rattle.text.proofs.put_table.Statement.{statement}

@@ -1,0 +1,15 @@
+-- `cells::put_pair` meets its contract: one byte after the other. Assumes nothing.
+use borrow.Author.Needs.{needs}
+use Rattle.cells.proofs.Writing.{wrote-then}
+use Rattle.cells.proofs.put_pair.Statement.{statement}
+use Rattle.cells.proofs.put_pair.Tie as tie
+
+returns : tie.Need-returns
+returns c =
+    wrote-then (c .before .before .before .before .before .before .put-byte .ensures) (c .before .before .put-byte2 .ensures)
+
+pub put-pair-spec : {M : Type 1} → statement M
+put-pair-spec =
+    tie.close
+    (tie.spec (λ c. search needs) (λ c. search needs) (λ c κs. search needs) (λ c. search needs) (λ c. search needs)
+    (λ c κs. search needs) (λ c. search needs) returns)
