@@ -166,7 +166,7 @@ fn finished(
     Cursor {
         clock,
         idle: c.idle,
-        used: 0,
+        used: 0, // of the next head's slice
         queued: left,
         head,
     }
