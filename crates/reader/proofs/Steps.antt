@@ -2,7 +2,7 @@
 -- reading on from an opening. Assumes nothing.
 use Prim.Native.Nat.{ℕ, zero, suc, _+_, _-_, _≤_, _<_}
 use native.Mathlib.Omega.{arith}
-use mathlib.Core.Path.{_≡_, refl, sym, _∙_}
+use mathlib.Core.Path.{_≡_, refl, sym, ap, _∙_}
 use mathlib.Core.List.{List, [], _∷_, _++_}
 use lib.ListN.{length, drop, replicate, drop-of-length-le}
 use lib.Seq.{drop-cons}
@@ -17,6 +17,7 @@ use Rattle.log.proofs.Rows.{row-list-length, row-list-at}
 use Rattle.log.specs.declared.Found.{Found}
 use Rattle.log.specs.declared.Found.the-variants.{Row, End}
 use Rattle.reader.proofs.Places.{has-row-zero}
+use Rattle.reader.specs.declared.Reader.{Reader}
 use Rattle.reader.specs.declared.Taken.{Taken}
 use Rattle.reader.specs.Reading.{rowNumber, takenAt, Reached, Stands, firstBlock, opened, Standing, nexts}
 use Rattle.reader.specs.Reading.{foundRows}
@@ -105,26 +106,31 @@ unfolding foundFrom
 from-none log n zero h = refl
 from-none log n (suc m) h = rw (found-none log n h, from-none log (n + 1) m (omega arith))
 
-nexts-none : (log : List ℕ) (b r m : ℕ) → 0 < b → Reached log b r → length (askedTimes log) ≤ rowNumber b r
-    → nexts log b r m ≡ replicate m End
+-- a reader on the log, before record r of block b
+abbrev on : RefT (List ℕ) → ℕ → ℕ → Reader
+on log b r = record { log = log; block = b; «record» = r }
+
+nexts-none : (log : RefT (List ℕ)) (b r m : ℕ) → 0 < b → Reached (now log) b r
+    → length (askedTimes (now log)) ≤ rowNumber b r → nexts (on log b r) m ≡ replicate m End
 unfolding nexts
 nexts-none log b r zero low s h = refl
 nexts-none log b r (suc m) low s h =
-    let t = taking log b r low s in
-    rw (t .finds ∙ found-none log (rowNumber b r) h, t .stays h .0, t .stays h .1, nexts-none log b r m low s h)
+    let t = taking (now log) b r low s in
+    rw (t .finds ∙ found-none (now log) (rowNumber b r) h, t .stays h .0, t .stays h .1, nexts-none log b r m low s h)
 
-nexts-from : (log : List ℕ) (b r m : ℕ) → 0 < b → Reached log b r → nexts log b r m ≡ foundFrom log (rowNumber b r) m
+nexts-from : (log : RefT (List ℕ)) (b r m : ℕ) → 0 < b → Reached (now log) b r
+    → nexts (on log b r) m ≡ foundFrom (now log) (rowNumber b r) m
 unfolding nexts foundFrom
 nexts-from log b r zero low s = refl
 nexts-from log b r (suc m) low s =
-    let t = taking log b r low s in
+    let t = taking (now log) b r low s in
     let n = rowNumber b r in
-    tested (ltb n (length (askedTimes log)))
+    let rows = length (askedTimes (now log)) in
+    tested (ltb n rows)
+    (λ e. rw (t .finds, nexts-from log _ _ m (t .past-zero) (t .reached), t .goes (ltb-true n rows e)))
     (λ e.
-    rw (t .finds, nexts-from log _ _ m (t .past-zero) (t .reached), t .goes (ltb-true n (length (askedTimes log)) e)))
-    (λ e.
-    let h = ltb-false n (length (askedTimes log)) e in
-    nexts-none log b r (suc m) low s h ∙ sym (from-none log n (suc m) h))
+    let h = ltb-false n rows e in
+    nexts-none log b r (suc m) low s h ∙ sym (from-none (now log) n (suc m) h))
 
 module _ (log : List ℕ) (reads : Reads log) where
   found-row : (n : ℕ) → n < length (askedTimes log) → found log n ≡ Row (rowAt log n)
@@ -154,8 +160,11 @@ module _ (log : List ℕ) (reads : Reads log) where
         from-rows (suc n) j k (omega arith),
       )
 
-  -- "knows its next record; after the last it says that there is none, and stays": from an opening all rows of the log
-  -- are found, in their order, and after them no more, however often
-  pub nexts-all : (k : ℕ) → nexts log 1 0 (length (rowList log) + k) ≡ foundRows (rowList log) ++ replicate k End
-  nexts-all k =
-      nexts-from log 1 0 _ (omega arith) (first-reached log reads) ∙ from-rows 0 (length (rowList log)) k (omega arith)
+-- "knows its next record; after the last it says that there is none, and stays": from an opening all rows of the log are
+-- found, in their order, and after them no more, however often
+pub nexts-all : (log : RefT (List ℕ)) → Reads (now log) → (k : ℕ)
+    → nexts (opened log) (length (rowList (now log)) + k) ≡ foundRows (rowList (now log)) ++ replicate k End
+nexts-all log reads k =
+    ap (λ (v : Verdict). nexts (on log (firstBlock v) 0) (length (rowList (now log)) + k)) reads
+    ∙ nexts-from log 1 0 _ (omega arith) (first-reached (now log) reads)
+    ∙ from-rows (now log) reads 0 (length (rowList (now log))) k (omega arith)

@@ -102,9 +102,9 @@ pub record FirstOf (log : List ℕ) (f : First) : Type 0 where
 -- ---- reading on
 
 -- what n steps find
-unfoldable pub nexts : List ℕ → ℕ → ℕ → ℕ → List Found
-nexts log b r zero = []
-nexts log b r (suc n) = takenAt log b r .found ∷ nexts log (takenAt log b r .block) (takenAt log b r .«record») n
+unfoldable pub nexts : Reader → ℕ → List Found
+nexts r zero = []
+nexts r (suc n) = takenBy r .found ∷ nexts (moved r) n
 
 -- rows as a reader finds them
 unfoldable pub foundRows : List Call → List Found

@@ -2,15 +2,17 @@
 use Prim.Native.Nat.{ℕ}
 use mathlib.Core.List.{List, [], _∷_, _++_}
 use lib.ListN.{take, replicate}
+use denote.Ref.{RefT}
 use Rattle.words.specs.Words.{word}
 use Rattle.rule.specs.Setups.{asked}
 use Rattle.rule.specs.declared.Setup.{Setup}
-use Rattle.judging.specs.Log.{Verdict, accepted, refused, judged}
+use Rattle.judging.specs.Log.{Verdict, accepted, refused}
 use Rattle.log.specs.Records.{setupOf, column, found, blockAsked, stretch}
 use Rattle.log.specs.declared.Found.{Found}
 use Rattle.log.specs.declared.Found.the-variants.{Row, End}
 use Rattle.log.specs.declared.Record.{Record}
-use Rattle.reader.specs.Reading.{takenAt, setupAt, firstBlock, firstFound, nexts}
+use Rattle.reader.specs.Reading.{takenAt, setupAt, opened, setupBy, firstFound, nexts}
+use Rattle.reader.specs.declared.Reader.{Reader}
 use Rattle.reader.specs.declared.Taken.{Taken}
 use Rattle.worked.specs.Made.{number, bytes, verdict, setup, row, steps, taken, Case, reads}
 use Rattle.worked.specs.Made.{written, little, made, head, caseA, wrong, empty}
@@ -37,9 +39,13 @@ stands l place w = record { found = number (word l place); said = number w }
 abbrev listed : ℕ → List ℕ → List ℕ → Case
 listed w log l = record { found = bytes (column w log); said = bytes l }
 
--- the setup that a reader gives from the opening on; of a refused log a plain one
+-- a log as it is lent
+abbrev lent : List ℕ → RefT (List ℕ)
+lent log = record { ptr = (0, 0); name = 0; now = log }
+
+-- the setup that a reader gives at the opening; of a refused log a plain one
 abbrev opensOn : List ℕ → Setup → Case
-opensOn log p = record { found = setup (setupAt log (firstBlock (judged log))); said = setup p }
+opensOn log p = record { found = setup (setupBy (opened (lent log))); said = setup p }
 
 abbrev pub readings : List Case
 readings =
@@ -49,6 +55,7 @@ readings =
     ∷ record { found = setup (setupOf ranks); said = setup (asked 1 3 0 (7 ∷ 3 ∷ 1 ∷ replicate 29 0)) }
     ∷ opensOn caseA (asked 2 2 1 (replicate 32 0)) ∷ opensOn ranks (asked 1 3 0 (7 ∷ 3 ∷ 1 ∷ replicate 29 0))
     ∷ opensOn (head ++ wrong) (asked 1 1 0 (replicate 32 0))
+    ∷ record { found = setup (setupAt long 2); said = setup (asked 2 2 1 (replicate 32 0)) }
     ∷ listed 0 caseA (0 ∷ 2 ∷ []) ∷ listed 1 caseA (0 ∷ 1 ∷ []) ∷ listed 2 caseA (5 ∷ 2 ∷ []) ∷ listed 0 head []
     ∷ listed 0 long (replicate 40 0 ++ 11 ∷ 16_909_060 ∷ [])
     ∷ listed 1 long (replicate 40 0 ++ 12 ∷ 15 ∷ []) ∷ listed 2 long (replicate 40 0 ++ 13 ∷ 16 ∷ [])
@@ -59,13 +66,16 @@ readings =
 abbrev finds : List ℕ → ℕ → Found → Case
 finds log i f = record { found = row (found log i); said = row f }
 
--- what a reader finds from record r of block b on
-abbrev walks : List ℕ → ℕ → ℕ → ℕ → List Found → Case
-walks log b r n fs = record { found = steps (nexts log b r n); said = steps fs }
+abbrev walks : Reader → ℕ → List Found → Case
+walks r n fs = record { found = steps (nexts r n); said = steps fs }
 
--- and from the opening on
+-- what a reader finds from the opening on
 abbrev opens : List ℕ → ℕ → List Found → Case
-opens log n fs = walks log (firstBlock (judged log)) 0 n fs
+opens log n fs = walks (opened (lent log)) n fs
+
+-- and from record r of block b on
+abbrev goesOn : List ℕ → ℕ → ℕ → ℕ → List Found → Case
+goesOn log b r n fs = walks (record { log = lent log; block = b; «record» = r }) n fs
 
 -- "knows its next record": one step, and the place after
 abbrev takes : List ℕ → ℕ → ℕ → Taken → Case
@@ -80,7 +90,7 @@ rowsRead =
     ∷ finds caseA 3 End ∷ finds head 0 End
     ∷ opens caseA 4 (Row (recorded 0 0 5) ∷ Row (recorded 2 1 2) ∷ End ∷ End ∷ [])
     ∷ opens head 2 (End ∷ End ∷ []) ∷ opens (head ++ wrong) 2 (End ∷ End ∷ [])
-    ∷ walks long 1 39 5
+    ∷ goesOn long 1 39 5
     (Row (recorded 0 0 0) ∷ Row (recorded 11 12 13) ∷ Row (recorded 16_909_060 15 16) ∷ End ∷ End ∷ [])
     ∷ takes caseA 1 1 (at (Row (recorded 2 1 2)) 1 2) ∷ takes caseA 1 2 (at End 1 2)
     ∷ takes caseA 1 3 (at End 1 3) ∷ takes caseA 0 0 (at End 0 0)
