@@ -2,7 +2,7 @@
 # "A call may require that the run, reader or other state handed to it was made by a setup or opening and calls on it. Nothing
 # else is required of a caller.": the public functions of these crates require MadeRun, Reads, Standing or Stands, and no more.
 cd "$(dirname "$0")/.." || exit 2
-crates='setups requests readings replay table tracker words judging log reader text report face desk'
+crates='setups requests readings replay table tracker words judging log places reader text report face desk'
 files=''
 for crate in $crates; do
     files="$files crates/$crate/src/lib.rt"

@@ -1,94 +1,27 @@
--- Laws of the reader's steps. In order: an opening stands at a place, and each step keeps to one; what a step finds;
--- reading on from an opening. Assumes nothing.
-use Prim.Native.Nat.{ℕ, zero, suc, _+_, _-_, _≤_, _<_}
+-- Laws of the reader's steps: an opening stands at a place; reading on from an opening. Assumes nothing.
+use Prim.Native.Nat.{ℕ, zero, suc, _+_, _≤_, _<_}
 use native.Mathlib.Omega.{arith}
 use mathlib.Core.Path.{_≡_, refl, sym, ap, _∙_}
 use mathlib.Core.List.{List, [], _∷_, _++_}
 use lib.ListN.{length, drop, replicate, drop-of-length-le}
 use lib.Seq.{drop-cons}
 use lib.Dec.{ltb}
-use borrow.Author.Tests.{ltb-true, ltb-false, lt-ltb, le-ltb, le-leb, eq-eqb, ne-eqb}
+use borrow.Author.Tests.{ltb-true, ltb-false, lt-ltb, le-ltb}
 use denote.Ref.{RefT, now}
-use Rattle.judging.specs.Log.{Verdict, accepted, refused, judged, Reads}
-use Rattle.lists.proofs.Testing.{tested, equal-or}
+use Rattle.judging.specs.Log.{Verdict, Reads}
+use Rattle.lists.proofs.Testing.{tested}
 use Rattle.rule.specs.Calls.{drain}
 use Rattle.log.specs.Records.{askedTimes, rowList, rowAt, found}
 use Rattle.log.proofs.Rows.{row-list-length, row-list-at}
 use Rattle.log.specs.declared.Found.{Found}
 use Rattle.log.specs.declared.Found.the-variants.{Row, End}
-use Rattle.reader.proofs.Places.{has-row-zero}
+use Rattle.places.specs.Places.{rowNumber, Reached, firstBlock}
+use Rattle.places.proofs.Places.{first-reached, first-stands, taking}
 use Rattle.reader.specs.declared.Reader.{Reader}
-use Rattle.reader.specs.declared.Taken.{Taken}
-use Rattle.reader.specs.Reading.{rowNumber, takenAt, Reached, Stands, firstBlock, opened, Standing, nexts}
-use Rattle.reader.specs.Reading.{foundRows}
-
--- ---- places
-
-pub first-reached : (log : List ℕ) → Reads log → Reached log 1 0
-first-reached log r = record { reads = r; few = omega arith; inside = omega arith }
-
-verdict-stands : (log : List ℕ) (v : Verdict) → judged log ≡ v → Stands log (firstBlock v) 0
-verdict-stands log accepted e h = first-reached log e
-verdict-stands log (refused n i) e h = absurd (omega arith)
+use Rattle.reader.specs.Reading.{opened, Standing, nexts, foundRows}
 
 pub opened-stands : (log : RefT (List ℕ)) → Standing (opened log)
-opened-stands log = verdict-stands (now log) (judged (now log)) refl
-
--- what is taken before row n
-pub record Taking (log : List ℕ) (b r n : ℕ) (t : Taken) : Type 0 where
-  pub finds : t .found ≡ found log n
-  pub past-zero : 0 < t .block
-  pub reached : Reached log (t .block) (t .«record»)
-  pub goes : n < length (askedTimes log) → rowNumber (t .block) (t .«record») ≡ n + 1
-  pub stays : length (askedTimes log) ≤ n → (t .block ≡ b) × (t .«record» ≡ r)
-
-pub taking : (log : List ℕ) (b r : ℕ) → 0 < b → Reached log b r → Taking log b r (rowNumber b r) (takenAt log b r)
-unfolding takenAt found
-taking log b r low s =
-    let rows = length (askedTimes log) in
-    let n = rowNumber b r in
-    tested (ltb n rows)
-    (λ e.
-    let h = ltb-true n rows e in
-    equal-or r 40
-    (λ q.
-    rw (le-leb 1 b low, e, eq-eqb r 40 q)
-    (record {
-      finds = rw e;
-      past-zero = omega arith;
-      reached = record { reads = s .reads; few = omega arith; inside = omega arith };
-      goes = λ _. omega arith;
-      stays = λ l. absurd (omega arith);
-    }))
-    (λ q.
-    rw (le-leb 1 b low, e, ne-eqb r 40 q)
-    (record {
-      finds = rw e;
-      past-zero = low;
-      reached = record { reads = s .reads; few = omega (arith, s .few); inside = omega arith };
-      goes = λ _. omega arith;
-      stays = λ l. absurd (omega arith);
-    })))
-    (λ e.
-    let l = ltb-false n rows e in
-    rw (le-leb 1 b low, e)
-    (record {
-      finds = rw e;
-      past-zero = low;
-      reached = s;
-      goes = λ h. absurd (omega arith);
-      stays = λ _.
-          (refl, refl);
-    }))
-
--- "and stays"
-pub taken-stands : (log : List ℕ) (b r : ℕ) → Stands log b r
-    → Stands log (takenAt log b r .block) (takenAt log b r .«record»)
-unfolding takenAt
-taken-stands log b r s =
-    equal-or b 0
-    (λ e. rw (has-row-zero log b r e) s)
-    (λ e h. let low : 0 < b = omega arith in taking log b r low (s low) .reached)
+opened-stands log = first-stands (now log)
 
 -- ---- reading on
 

@@ -34,16 +34,17 @@ use denote.Triple.Spec.{Meets, tripleOf}
 use denote.Triple.Statement.{Contract}
 use denote.Triple.Walked.{says, needs, Stays, stay-none, stay-none-slice, walkOf, goes-none, goes-none-slice, ends-at}
 use denote.Triple.Walked.{walked, walk-meets}
-use Rattle.reader.specs.Reading.{takenAt, Stands, Standing}
+use Rattle.places.specs.Places.{takenAt, Stands}
+use Rattle.reader.specs.Reading.{Standing}
 use Rattle.reader.specs.declared.Reader.{Reader}
-use Rattle.reader.specs.declared.Taken.{Taken}
+use Rattle.places.specs.declared.Taken.{Taken}
 use Rattle.reader.proofs.Reader as T
 use Rattle.reader.proofs.Reader.Laws as T′
 use Rattle.walk_laws.proofs.Data.{Data, struct}
 use Rattle.log.proofs.Found as S
 use Rattle.log.proofs.Found.Laws as S′
-use Rattle.reader.proofs.Taken as D
-use Rattle.reader.proofs.Taken.Laws as D′
+use Rattle.places.proofs.Taken as D
+use Rattle.places.proofs.Taken.Laws as D′
 
 abbrev pub B : NamedLft → RattleType
 B α = T.the-row α

@@ -8,17 +8,8 @@ use Rattle.rule.specs.View.{Determined}
 use Rattle.judging.specs.Log.{judged}
 use Rattle.log.specs.declared.Found.{Found}
 use Rattle.judging.proofs.Unique.{told-determined}
-use Rattle.reader.specs.Reading.{Started, OpenedOn, Stepped, FirstOf}
+use Rattle.reader.specs.Reading.{OpenedOn, Stepped, FirstOf}
 use Rattle.reader.specs.declared.Reader.{Reader}
-
-pub start-determined : (log : List ℕ)
-    → Determined (Started log)
-start-determined log x y p q =
-    λ i. record {
-      verdict = told-determined (judged log) (x .verdict) (y .verdict) (p .verdict) (q .verdict) i;
-      block =
-          (p .block ∙ sym (q .block)) i;
-    }
 
 pub opened-determined : (log : RefT (List ℕ))
     → Determined (OpenedOn log)

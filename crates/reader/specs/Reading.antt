@@ -1,69 +1,20 @@
 -- Document 01, "The desk's log form": the reader, its opening and its steps. Assumes nothing.
-use Prim.Native.Nat.{ℕ, zero, suc, _+_, _*_, _-_, _≤_, _<_}
+use Prim.Native.Nat.{ℕ, zero, suc}
 use mathlib.Core.Path.{_≡_}
-use mathlib.Core.Bool.{Bool, cond, _&&_}
 use mathlib.Core.List.{List, [], _∷_}
-use lib.ListN.{length}
-use lib.Dec.{eqb, leb, ltb}
 use denote.Ref.{RefT, now}
-use Rattle.rule.specs.Setups.{plain}
 use Rattle.rule.specs.Calls.{Call, request, advance, drain}
 use Rattle.rule.specs.declared.Setup.{Setup}
-use Rattle.judging.specs.Log.{Verdict, accepted, refused, told, judged, Reads}
-use Rattle.log.specs.Records.{setupOf, askedTimes, rowAt}
+use Rattle.judging.specs.Log.{told, judged}
 use Rattle.log.specs.declared.Found.{Found}
-use Rattle.log.specs.declared.Found.the-variants.{Row, End}
+use Rattle.log.specs.declared.Found.the-variants.{Row}
+use Rattle.places.specs.Places.{takenAt, setupAt, Stands, firstBlock}
+use Rattle.places.specs.declared.Taken.{Taken}
 use Rattle.reader.specs.declared.First.{First}
 use Rattle.reader.specs.declared.Opened.{Opened}
 use Rattle.reader.specs.declared.Reader.{Reader}
-use Rattle.reader.specs.declared.Start.{Start}
-use Rattle.reader.specs.declared.Taken.{Taken}
-
--- ---- places: record r of block b, both counted from 0
-
--- "Each but the last has 41 records.": which row stands there, counted from 0
-abbrev pub rowNumber : ℕ → ℕ → ℕ
-rowNumber b r = 41 * (b - 1) + r
-
--- block 0 has no records
-abbrev pub hasRow : List ℕ → ℕ → ℕ → Bool
-hasRow log b r = leb 1 b && ltb (rowNumber b r) (length (askedTimes log))
-
--- "knows its next record; after the last it says that there is none, and stays"
-unfoldable pub takenAt : List ℕ → ℕ → ℕ → Taken
-takenAt log b r =
-    cond (hasRow log b r)
-    (record {
-      found = Row (rowAt log (rowNumber b r));
-      block = cond (eqb r 40) (b + 1) b;
-      «record» = cond (eqb r 40) 0 (r + 1);
-    })
-    (record { found = End; block = b; «record» = r })
-
--- the setup of the log; on a refused log, where a reader stays at block 0, that of `plain`
-unfoldable pub setupAt : List ℕ → ℕ → Setup
-setupAt log b = cond (leb 1 b) (setupOf log) plain
-
--- a place that is reached from the first record of a log that reads
-pub record Reached (log : List ℕ) (b r : ℕ) : Type 0 where
-  pub reads : Reads log
-  pub few : r < 41
-  pub inside : rowNumber b r ≤ length (askedTimes log)
-
--- "made by .. opening and calls on it": a refused opening leaves the reader at block 0, where it finds no record
-abbrev pub Stands : List ℕ → ℕ → ℕ → Type 0
-Stands log b r = 0 < b → Reached log b r
 
 -- ---- the reader
-
--- where reading begins, by the log's verdict
-abbrev pub firstBlock : Verdict → ℕ
-firstBlock accepted = 1
-firstBlock (refused n i) = 0
-
-pub record Started (log : List ℕ) (s : Start) : Type 0 where
-  pub verdict : told (s .verdict) ≡ judged log
-  pub block : s .block ≡ firstBlock (judged log)
 
 -- the reader that an opening gives, on the caller's own bytes
 abbrev pub opened : RefT (List ℕ) → Reader

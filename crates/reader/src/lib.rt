@@ -1,104 +1,16 @@
-// The reader of a log: it stays on the caller's bytes and knows its next record. The work is done by `take_at`, on the
-// bytes and two numbers; over the struct stand thin calls.
+// The reader of a log: it stays on the caller's bytes and knows its next record. The work is done by `places::take_at`, on the
+// bytes and two numbers; here stand thin calls over the struct.
 ghost use mathlib.Core.Path.{_≡_};
-ghost use Rattle.reader.specs.Reading.{takenAt, setupAt, Stands, Started, OpenedOn, Standing, takenBy, setupBy};
-ghost use Rattle.reader.specs.Reading.{Stepped, FirstOf};
+ghost use Rattle.places.specs.Places.{takenAt, Stands};
+ghost use Rattle.reader.specs.Reading.{OpenedOn, Standing, takenBy, setupBy, Stepped, FirstOf};
 use judging::Judged;
 use log::Found;
-use log::Record;
+use places::Taken;
+use places::found_at;
+use places::setup_at;
+use places::start_of;
+use places::take_at;
 use rule::Setup;
-use words::word_at;
-
-// What stands at a place of a log, and the place after it.
-pub struct Taken {
-    pub found: Found,
-    pub block: usize,
-    pub record: usize,
-}
-
-// The record at a place and the place after it; after the last, that there is none, and the same place.
-pub fn take_at(log: &[u8], block: usize, record: usize) -> Taken
-    requires { ⌜ Stands (now log) block «record» ⌝ }
-    ensures { λ r. ⌜ r ≡ takenAt (now (log .entry)) block «record» ⌝ }
-{
-    if block == 0 || log.len() / 512 <= block {
-        return Taken {
-            found: Found::End,
-            block,
-            record,
-        };
-    }
-    if word_at(log, 512 * block + 4) as usize <= record {
-        return Taken {
-            found: Found::End,
-            block,
-            record,
-        };
-    }
-    let place = 512 * block + 8 + 12 * record;
-    let found = Found::Row(Record {
-        time: word_at(log, place),
-        task: word_at(log, place + 4),
-        amount: word_at(log, place + 8),
-    });
-    if record == 40 {
-        return Taken {
-            found,
-            block: block + 1,
-            record: 0, // the first of that block
-        };
-    }
-    Taken {
-        found,
-        block,
-        record: record + 1,
-    }
-}
-
-// The record at a place, or that there is none.
-fn found_at(log: &[u8], block: usize, record: usize) -> Found
-    requires { ⌜ Stands (now log) block «record» ⌝ }
-    ensures { λ r. ⌜ r ≡ takenAt (now (log .entry)) block «record» .found ⌝ }
-{
-    let taken = take_at(log, block, record);
-    taken.found
-}
-
-// The setup of the log that a reader at a place stands on, the same at each record; of a refused log, one plain setup.
-fn setup_at(log: &[u8], block: usize, _record: usize) -> Setup
-    requires { ⌜ Stands (now log) block _record ⌝ }
-    ensures { λ r. ⌜ r ≡ setupAt (now (log .entry)) block ⌝ }
-{
-    if block == 0 {
-        return Setup {
-            policy: 1,
-            count: 1,
-            slice: 0,
-            priority: [0; 32],
-        };
-    }
-    log::setup_of(log)
-}
-
-// What a log is judged to be, and the block at which its reading begins.
-pub struct Start {
-    pub verdict: Judged,
-    pub block: usize,
-}
-
-// Judges the whole log. Reading begins at block 1, or at block 0, which has no records, where the log is refused.
-pub fn start_of(log: &[u8]) -> Start
-    ensures { λ r. ⌜ Started (now (log .entry)) r ⌝ }
-{
-    let verdict = judging::judge(log);
-    match verdict {
-        Judged::Accepted => Start { verdict, block: 1 },
-        Judged::Refused {
-            number: _,
-            block: _,
-        } => Start { verdict, block: 0 },
-    }
-}
 
 // A reader on the caller's log, before record `record` of block `block`.
 pub struct Reader<'a> {

@@ -12,9 +12,9 @@ use Rattle.judging.specs.Log.{Reads}
 use Rattle.log.specs.Records.{askedTimes, askedTasks, askedAmounts, column, rowAt, found}
 use Rattle.log.specs.declared.Record.{Record}
 use Rattle.log.proofs.Rows.{length-column, column-most}
-use Rattle.reader.specs.Reading.{rowNumber, takenAt, Reached}
-use Rattle.reader.specs.declared.Taken.{Taken}
-use Rattle.reader.proofs.Steps.{first-reached, Taking, taking}
+use Rattle.places.specs.Places.{rowNumber, takenAt, Reached}
+use Rattle.places.specs.declared.Taken.{Taken}
+use Rattle.places.proofs.Places.{first-reached, Taking, taking}
 use Rattle.report.specs.Filled.{recordIn, Roomy, Filled, AllFilled}
 
 -- one entry more of a copy

@@ -46,7 +46,7 @@ fn fill(
     let mut place: usize = 0;
     let mut i: usize = 0;
     while i < n {
-        let taken = reader::take_at(log, block, place);
+        let taken = places::take_at(log, block, place);
         let found = taken.found;
         let row = record_in(found);
         times[i] = row.time;

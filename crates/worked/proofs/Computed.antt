@@ -11,7 +11,8 @@ use Rattle.rule.specs.Table.{completion, completions, unlessRefused, outcomeFro
 use Rattle.judging.specs.Blocks.{lengthFits, checkFits, placeFits, setupIn, recordsTo, countFits, unusedZero, layoutFits}
 use Rattle.judging.specs.Log.{blockRefusal, judgedFrom, judged}
 use Rattle.log.specs.Records.{entries, columnFrom, column, found, blockAsked, stretch}
-use Rattle.reader.specs.Reading.{takenAt, setupAt, nexts}
+use Rattle.places.specs.Places.{takenAt, setupAt}
+use Rattle.reader.specs.Reading.{nexts}
 use Rattle.cells.specs.Decimal.{digits}
 use Rattle.text.specs.Text.{rowLine, rowLines, endLine, tableText, refusedLine}
 use Rattle.report.specs.Report.{logOutcome, tablePrinted, printed, reportText}

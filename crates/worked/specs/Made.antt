@@ -5,7 +5,7 @@ use lib.ListN.{length, take, set, replicate}
 use Rattle.rule.specs.declared.Setup.{Setup}
 use Rattle.judging.specs.Log.{Verdict, accepted, refused, judged}
 use Rattle.log.specs.declared.Found.{Found}
-use Rattle.reader.specs.declared.Taken.{Taken}
+use Rattle.places.specs.declared.Taken.{Taken}
 
 pub data Said : Type 0 where
   number : ℕ → Said

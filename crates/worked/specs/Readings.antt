@@ -11,9 +11,10 @@ use Rattle.log.specs.Records.{setupOf, column, found, blockAsked, stretch}
 use Rattle.log.specs.declared.Found.{Found}
 use Rattle.log.specs.declared.Found.the-variants.{Row, End}
 use Rattle.log.specs.declared.Record.{Record}
-use Rattle.reader.specs.Reading.{takenAt, setupAt, opened, setupBy, firstFound, nexts}
+use Rattle.places.specs.Places.{takenAt, setupAt}
+use Rattle.places.specs.declared.Taken.{Taken}
+use Rattle.reader.specs.Reading.{opened, setupBy, firstFound, nexts}
 use Rattle.reader.specs.declared.Reader.{Reader}
-use Rattle.reader.specs.declared.Taken.{Taken}
 use Rattle.worked.specs.Made.{number, bytes, verdict, setup, row, steps, taken, Case, reads}
 use Rattle.worked.specs.Made.{written, little, made, head, caseA, wrong, empty}
 

@@ -32,7 +32,8 @@ use denote.Struct.Rest.{all-own, own-open}
 use denote.Triple.Statement.{Triple}
 use denote.Triple.Call.{calls-at}
 use denote.Triple.Table.{entered, cited}
-use Rattle.reader.specs.Reading.{takenAt, takenBy, opened, Standing, OpenedOn, FirstOf}
+use Rattle.places.specs.Places.{takenAt}
+use Rattle.reader.specs.Reading.{takenBy, opened, Standing, OpenedOn, FirstOf}
 use Rattle.reader.specs.declared.First.{First}
 use Rattle.reader.specs.declared.Opened.{Opened}
 use Rattle.reader.specs.declared.Reader.{Reader}

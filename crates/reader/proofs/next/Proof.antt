@@ -40,9 +40,10 @@ use denote.Triple.Call.{calls-at}
 use denote.Triple.Entry.{onEntry}
 use denote.Triple.Spec.{Meets, tripleOf}
 use denote.Triple.Walked.{says, needs, Stays, stay-ref, walkOf, goes-ref, Walks, ends-at, walked, walk-meets}
-use Rattle.reader.specs.Reading.{takenAt, Standing}
+use Rattle.places.specs.Places.{takenAt}
+use Rattle.reader.specs.Reading.{Standing}
 use Rattle.reader.specs.declared.Reader.{Reader}
-use Rattle.reader.specs.declared.Taken.{Taken}
+use Rattle.places.specs.declared.Taken.{Taken}
 use Rattle.reader.proofs.Reader as T
 use Rattle.reader.proofs.Reader.Laws as T′
 use Rattle.walk_laws.proofs.Calling.{over}
@@ -52,10 +53,10 @@ use Rattle.log.proofs.Found.Laws as S′
 use Rattle.reader.proofs.Walks.{answers, gone}
 use Rattle.reader.proofs.Take as calls
 use Rattle.reader.proofs.Take.{B, Core, rowD, Takes, found-is, block-fits, record-fits}
-use Rattle.reader.proofs.Taken as D
-use Rattle.reader.proofs.Taken.Laws as D′
-use Rattle.reader.proofs.take_at.Symbol as take-def
-use Rattle.reader.proofs.take_at.Met as take-thm
+use Rattle.places.proofs.Taken as D
+use Rattle.places.proofs.Taken.Laws as D′
+use Rattle.places.proofs.take_at.Symbol as take-def
+use Rattle.places.proofs.take_at.Met as take-thm
 use Rattle.reader.proofs.next as self
 use Rattle.reader.proofs.next.Key as key
 use Rattle.reader.proofs.next.Statement as stated
@@ -202,5 +203,5 @@ unfolding code.routine
 next-spec 𝓤 H 𝓜 𝓖 𝓡 =
     over 𝓤 H 𝓜 𝓡 code.env (tripleOf 𝓤 H (𝓖 .A) self.signature (self.spec 𝓤 H (𝓖 .A) (𝓜 .mem) (𝓡 .run)))
     (Core rowD Takes 𝓤 H (𝓖 .A)) key.name code.function (code.unfolded 𝓤 H 𝓜 𝓡) take-def.name take-def.routine
-    code.calls-reader·take-at (take-thm.met 𝓤 H 𝓜 𝓖 𝓡)
+    code.calls-places·take-at (take-thm.met 𝓤 H 𝓜 𝓖 𝓡)
     (meets 𝓤 H (𝓖 .A) (givenOf 𝓤 H 𝓜 𝓖) (𝓜 .mem) (𝓡 .run))

@@ -32,11 +32,12 @@ use denote.Struct.Laws as LL
 use denote.Struct.Rest.{own-shut}
 use denote.Triple.Statement.{Triple}
 use denote.Triple.Call.{calls-at}
-use Rattle.reader.specs.Reading.{Started, OpenedOn}
+use Rattle.places.specs.Places.{Started}
+use Rattle.reader.specs.Reading.{OpenedOn}
 use Rattle.reader.specs.declared.Opened.{Opened}
-use Rattle.reader.specs.declared.Start.{Start}
-use Rattle.reader.proofs.Start as J
-use Rattle.reader.proofs.Start.Laws as J′
+use Rattle.places.specs.declared.Start.{Start}
+use Rattle.places.proofs.Start as J
+use Rattle.places.proofs.Start.Laws as J′
 use Rattle.reader.proofs.Opened as O
 use Rattle.reader.proofs.Opened.Laws as O′
 use Rattle.reader.proofs.Reader as T
@@ -48,8 +49,8 @@ use Rattle.reader.proofs.Slices.{Own, On, Enters, Post, to, goes, said,
 use Rattle.judging.proofs.Judged as E
 use Rattle.judging.proofs.Judged.Laws as E′
 use Rattle.walk_laws.proofs.Data.{Data, struct, typed-at}
-use Rattle.reader.proofs.start_of.Symbol as start-def
-use Rattle.reader.proofs.start_of.Met.{met}
+use Rattle.places.proofs.start_of.Symbol as start-def
+use Rattle.places.proofs.start_of.Met.{met}
 use Rattle.reader.proofs.open_log.Key.{name}
 use Rattle.reader.proofs.open_log.Statement as stated
 use Rattle.reader.proofs.open_log.Code as code
@@ -165,6 +166,6 @@ pub open-log-spec : {M : Type 1} → stated.statement M
 unfolding code.routine
 open-log-spec 𝓤 H 𝓜 𝓖 𝓡 =
     over 𝓤 H 𝓜 𝓡 code.env (On rowO Opens 𝓤 H (𝓖 .A)) (On (λ _. J.the-row) Starts 𝓤 H (𝓖 .A)) name code.function
-    (code.unfolded 𝓤 H 𝓜 𝓡) start-def.name start-def.routine code.calls-reader·start-of (met 𝓤 H 𝓜 𝓖 𝓡)
+    (code.unfolded 𝓤 H 𝓜 𝓡) start-def.name start-def.routine code.calls-places·start-of (met 𝓤 H 𝓜 𝓖 𝓡)
     (λ 𝓣 known. by-walk rowO Opens 𝓤 H (𝓖 .A) (givenOf 𝓤 H 𝓜 𝓖) 𝓣 code.function
     (λ κ q s p. walk 𝓤 H (𝓖 .A) (givenOf 𝓤 H 𝓜 𝓖) κ q s p (𝓣 .C) (𝓣 .Λ) (fmOf 𝓤 H (givenOf 𝓤 H 𝓜 𝓖 .laws) 𝓣) known))

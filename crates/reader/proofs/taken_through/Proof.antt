@@ -44,7 +44,7 @@ use denote.Triple.Walked.{says}
 use Rattle.reader.specs.Reading.{Stepped, Standing}
 use Rattle.reader.specs.declared.Reader.{Reader}
 use Rattle.log.specs.declared.Found.{Found}
-use Rattle.reader.specs.declared.Taken.{Taken}
+use Rattle.places.specs.declared.Taken.{Taken}
 use Rattle.reader.proofs.Reader as T
 use Rattle.reader.proofs.Reader.Laws as T′
 use Rattle.log.proofs.Found as S
@@ -53,8 +53,8 @@ use Rattle.walk_laws.proofs.Calling.{over}
 use Rattle.walk_laws.proofs.Lying.{held-in, lies-out}
 use Rattle.reader.proofs.Walks.{gone}
 use Rattle.reader.proofs.Take.{slice-of, rowD, Takes, Core, Enters, machine, Post, exits, by-walk}
-use Rattle.reader.proofs.Taken as D
-use Rattle.reader.proofs.Taken.Laws as D′
+use Rattle.places.proofs.Taken as D
+use Rattle.places.proofs.Taken.Laws as D′
 use Rattle.reader.proofs.next as next
 use Rattle.reader.proofs.next.Symbol as next-def
 use Rattle.reader.proofs.next.Met.{met}

@@ -1,9 +1,9 @@
--- `reader::found_at` meets its contract: the record of what `take_at` gives. Assumes nothing.
+-- `places::found_at` meets its contract: the record of what `take_at` gives. Assumes nothing.
 use mathlib.Core.Path.{ap}
 use borrow.Author.Needs.{needs}
-use Rattle.reader.specs.declared.Taken.{Taken}
-use Rattle.reader.proofs.found_at.Statement.{statement}
-use Rattle.reader.proofs.found_at.Tie as tie
+use Rattle.places.specs.declared.Taken.{Taken}
+use Rattle.places.proofs.found_at.Statement.{statement}
+use Rattle.places.proofs.found_at.Tie as tie
 
 returns : tie.Need-returns
 returns c = ap (λ (t : Taken). t .found) (c .take-at .ensures)

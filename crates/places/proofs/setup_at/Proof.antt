@@ -1,4 +1,4 @@
--- `reader::setup_at` meets its contract: past block 0 the log reads, and `log::setup_of` gives its setup. Assumes
+-- `places::setup_at` meets its contract: past block 0 the log reads, and `log::setup_of` gives its setup. Assumes
 -- nothing.
 use native.Mathlib.Omega.{arith}
 use Prim.Native.Nat.{ℕ, _<_, _≤_}
@@ -7,9 +7,9 @@ use mathlib.Core.List.{List}
 use borrow.Author.Tests.{le-leb, lt-leb}
 use Rattle.log.specs.Records.{setupOf}
 use Rattle.rule.specs.Setups.{plain}
-use Rattle.reader.specs.Reading.{setupAt}
-use Rattle.reader.proofs.setup_at.Statement.{statement}
-use Rattle.reader.proofs.setup_at.Tie as tie
+use Rattle.places.specs.Places.{setupAt}
+use Rattle.places.proofs.setup_at.Statement.{statement}
+use Rattle.places.proofs.setup_at.Tie as tie
 
 setup-none : (log : List ℕ) (b : ℕ) → b < 1 → plain ≡ setupAt log b
 unfolding setupAt

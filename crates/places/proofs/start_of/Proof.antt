@@ -1,10 +1,10 @@
--- `reader::start_of` meets its contract. Assumes nothing.
+-- `places::start_of` meets its contract. Assumes nothing.
 use mathlib.Core.Path.{sym, ap, _∙_}
 use borrow.Author.Needs.{needs}
 use Rattle.judging.specs.Log.{told}
-use Rattle.reader.specs.Reading.{firstBlock}
-use Rattle.reader.proofs.start_of.Statement.{statement}
-use Rattle.reader.proofs.start_of.Tie as tie
+use Rattle.places.specs.Places.{firstBlock}
+use Rattle.places.proofs.start_of.Statement.{statement}
+use Rattle.places.proofs.start_of.Tie as tie
 
 returns : tie.Need-returns
 returns c =

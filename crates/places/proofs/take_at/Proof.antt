@@ -1,4 +1,4 @@
--- `reader::take_at` meets its contract: at a place that is reached the count of its block says whether a record is
+-- `places::take_at` meets its contract: at a place that is reached the count of its block says whether a record is
 -- there. Assumes nothing.
 use native.Mathlib.Omega.{arith}
 use Prim.Native.Nat.{_≤_, _<_}
@@ -9,11 +9,11 @@ use denote.Ref.{now}
 use lib.ListN.{length}
 use Rattle.judging.specs.Blocks.{blocks}
 use Rattle.log.specs.Records.{askedTimes}
-use Rattle.reader.specs.Reading.{rowNumber, Reached}
-use Rattle.reader.proofs.Places.{has-row-zero, has-row-past, has-row-counted, has-row-over, block-few}
-use Rattle.reader.proofs.Places.{taken-none, row-taken, taken-last, taken-next}
-use Rattle.reader.proofs.take_at.Statement.{statement}
-use Rattle.reader.proofs.take_at.Tie as tie
+use Rattle.places.specs.Places.{rowNumber, Reached}
+use Rattle.places.proofs.Places.{has-row-zero, has-row-past, has-row-counted, has-row-over, block-few}
+use Rattle.places.proofs.Places.{taken-none, row-taken, taken-last, taken-next}
+use Rattle.places.proofs.take_at.Statement.{statement}
+use Rattle.places.proofs.take_at.Tie as tie
 
 -- the places: past the test of the block; past that of its count
 low : (c : tie.Else2) → 0 < c .before .before .before .args .block

@@ -1,21 +1,24 @@
--- Laws of the places of a log that reads. In order: whether a record is at a place; what is taken there. Assumes
--- nothing.
+-- Laws of the places of a log that reads. In order: whether a record is at a place; what is taken there; reading begins at
+-- a place that is reached, and goes on to such a place. Assumes nothing.
 use Prim.Native.Nat.{ℕ, _+_, _*_, _-_, _≤_, _<_}
 use native.Mathlib.Omega.{arith}
-use mathlib.Core.Path.{_≡_, ap, _∙_}
+use mathlib.Core.Path.{_≡_, refl, ap, _∙_}
 use mathlib.Core.Bool.{true, false}
 use mathlib.Core.List.{List}
 use lib.ListN.{length}
-use borrow.Author.Tests.{lt-ltb, le-ltb, lt-leb, le-leb, eq-eqb, ne-eqb}
-use Rattle.lists.proofs.Testing.{equal-or}
+use lib.Dec.{ltb}
+use borrow.Author.Tests.{ltb-true, ltb-false, lt-ltb, le-ltb, lt-leb, le-leb, eq-eqb, ne-eqb}
+use Rattle.lists.proofs.Testing.{tested, equal-or}
 use Rattle.words.specs.Words.{word}
 use Rattle.judging.specs.Blocks.{blocks, block}
-use Rattle.log.specs.Records.{askedTimes, rowAt}
+use Rattle.judging.specs.Log.{Verdict, accepted, refused, judged, Reads}
+use Rattle.log.specs.Records.{askedTimes, rowAt, found}
 use Rattle.log.specs.declared.Found.the-variants.{Row, End}
 use Rattle.log.specs.declared.Record.{Record}
 use Rattle.judging.proofs.Accepted.{accepted-counted, word-block}
 use Rattle.log.proofs.Rows.{column-blocks, column-most, column-some, row-here}
-use Rattle.reader.specs.Reading.{rowNumber, hasRow, takenAt, Reached}
+use Rattle.places.specs.declared.Taken.{Taken}
+use Rattle.places.specs.Places.{rowNumber, hasRow, takenAt, Reached, Stands, firstBlock}
 
 -- ---- whether a record is at a place
 
@@ -91,3 +94,71 @@ module _ (log : List ℕ) (b r : ℕ) (low : 0 < b) (s : Reached log b r) (h : r
         → record { found = Row x; block = b; «record» = r + 1 } ≡ takenAt log b r
     unfolding takenAt
     taken-next x e q = rw (e, has-row-true log b r low h, ne-eqb r 40 q)
+
+-- ---- the places that reading reaches
+
+pub first-reached : (log : List ℕ) → Reads log → Reached log 1 0
+first-reached log r = record { reads = r; few = omega arith; inside = omega arith }
+
+verdict-stands : (log : List ℕ) (v : Verdict) → judged log ≡ v → Stands log (firstBlock v) 0
+verdict-stands log accepted e h = first-reached log e
+verdict-stands log (refused n i) e h = absurd (omega arith)
+
+pub first-stands : (log : List ℕ) → Stands log (firstBlock (judged log)) 0
+first-stands log = verdict-stands log (judged log) refl
+
+-- what is taken before row n
+pub record Taking (log : List ℕ) (b r n : ℕ) (t : Taken) : Type 0 where
+  pub finds : t .found ≡ found log n
+  pub past-zero : 0 < t .block
+  pub reached : Reached log (t .block) (t .«record»)
+  pub goes : n < length (askedTimes log) → rowNumber (t .block) (t .«record») ≡ n + 1
+  pub stays : length (askedTimes log) ≤ n → (t .block ≡ b) × (t .«record» ≡ r)
+
+pub taking : (log : List ℕ) (b r : ℕ) → 0 < b → Reached log b r → Taking log b r (rowNumber b r) (takenAt log b r)
+unfolding takenAt found
+taking log b r low s =
+    let rows = length (askedTimes log) in
+    let n = rowNumber b r in
+    tested (ltb n rows)
+    (λ e.
+    let h = ltb-true n rows e in
+    equal-or r 40
+    (λ q.
+    rw (le-leb 1 b low, e, eq-eqb r 40 q)
+    (record {
+      finds = rw e;
+      past-zero = omega arith;
+      reached = record { reads = s .reads; few = omega arith; inside = omega arith };
+      goes = λ _. omega arith;
+      stays = λ l. absurd (omega arith);
+    }))
+    (λ q.
+    rw (le-leb 1 b low, e, ne-eqb r 40 q)
+    (record {
+      finds = rw e;
+      past-zero = low;
+      reached = record { reads = s .reads; few = omega (arith, s .few); inside = omega arith };
+      goes = λ _. omega arith;
+      stays = λ l. absurd (omega arith);
+    })))
+    (λ e.
+    let l = ltb-false n rows e in
+    rw (le-leb 1 b low, e)
+    (record {
+      finds = rw e;
+      past-zero = low;
+      reached = s;
+      goes = λ h. absurd (omega arith);
+      stays = λ _.
+          (refl, refl);
+    }))
+
+-- "and stays"
+pub taken-stands : (log : List ℕ) (b r : ℕ) → Stands log b r
+    → Stands log (takenAt log b r .block) (takenAt log b r .«record»)
+unfolding takenAt
+taken-stands log b r s =
+    equal-or b 0
+    (λ e. rw (has-row-zero log b r e) s)
+    (λ e h. let low : 0 < b = omega arith in taking log b r low (s low) .reached)
