@@ -1,5 +1,5 @@
--- Laws of the places of a log that reads. In order: whether a record is at a place; what is taken there; reading begins at
--- a place that is reached, and goes on to such a place. Assumes nothing.
+-- Laws of the places of a log that reads. In order: whether a record is at a place; what is taken there; reading begins
+-- at a place that is reached, and goes on to such a place. Assumes nothing.
 use Prim.Native.Nat.{ℕ, _+_, _*_, _-_, _≤_, _<_}
 use native.Mathlib.Omega.{arith}
 use mathlib.Core.Path.{_≡_, refl, ap, _∙_}

@@ -1,4 +1,5 @@
--- Document 01, "The desk's log form": the places of a log, what is taken there, and where reading begins. Assumes nothing.
+-- Document 01, "The desk's log form": the places of a log, what is taken there, where reading
+-- begins. Assumes nothing.
 use Prim.Native.Nat.{ℕ, _+_, _*_, _-_, _≤_, _<_}
 use mathlib.Core.Path.{_≡_}
 use mathlib.Core.Bool.{Bool, cond, _&&_}

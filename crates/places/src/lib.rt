@@ -1,5 +1,5 @@
-// Reading a log at places, each record r of block b: where reading begins, what stands at a place and which place is after it, and
-// the setup. All of it is on the caller's bytes and two numbers; a reader that holds them is `reader::Reader`.
+// The places of a log, each a block's number and a record's: what stands there and which place is after it, the setup,
+// and where reading begins. All of it takes the caller's bytes and two numbers, which `reader::Reader` holds.
 ghost use mathlib.Core.Path.{_≡_};
 ghost use Rattle.places.specs.Places.{takenAt, setupAt, Stands, Started};
 use judging::Judged;

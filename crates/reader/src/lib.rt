@@ -1,4 +1,4 @@
-// The reader of a log: it stays on the caller's bytes and knows its next record. The work is done by `places::take_at`, on the
+// The reader of a log: it stays on the caller's bytes and knows its next record. The work is done by `places`, on the
 // bytes and two numbers; here stand thin calls over the struct.
 ghost use mathlib.Core.Path.{_≡_};
 ghost use Rattle.places.specs.Places.{takenAt, Stands};
