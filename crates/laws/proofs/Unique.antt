@@ -11,7 +11,7 @@ use lib.ListN.{take, length, replicate, length-take, take-append-drop}
 use borrow.Author.Tests.{eqb-true, eq-eqb}
 use Rattle.lists.specs.Lists.{zeros}
 use Rattle.lists.proofs.Testing.{tested, cond-true}
-use Rattle.rule.specs.Setups.{sliceFits, bytesFit, setupRefusal, plain}
+use Rattle.rule.specs.Setups.{sliceFits, bytesFit, setupRefusal, plain, orPlain}
 use Rattle.rule.specs.State.{State, fresh}
 use Rattle.rule.specs.Calls.{Call, refusals, calls, Made}
 use Rattle.rule.specs.View.{view, Tidy, MadeRun, Shows, Started, Promised, Determined}
@@ -117,7 +117,7 @@ pub plain-taken : setupRefusal plain ≡ 0
 unfolding zeros sliceFits bytesFit setupRefusal
 plain-taken = refl
 
-given-taken : (p : Setup) → setupRefusal (cond (eqb (setupRefusal p) 0) p plain) ≡ 0
+given-taken : (p : Setup) → setupRefusal (orPlain p) ≡ 0
 given-taken p =
     tested (eqb (setupRefusal p) 0)
     (λ e. rw e (eqb-true (setupRefusal p) 0 e))
@@ -127,7 +127,7 @@ pub made-started : (p : Setup) (n : ℕ) (r : Run) → Started p n r → MadeRun
 made-started p n r h =
     record {
       tidy = h .run .tidy;
-      made = subst Made (sym (h .run .shown)) (made-fresh (cond (eqb (setupRefusal p) 0) p plain) (given-taken p));
+      made = subst Made (sym (h .run .shown)) (made-fresh (orPlain p) (given-taken p));
     }
 
 pub made-promised : (s : Run) (c : Call) (n : ℕ) (r : Run) → MadeRun s → Promised s c n r → MadeRun r

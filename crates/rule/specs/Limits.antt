@@ -4,7 +4,7 @@ use Prim.Native.Nat.{ℕ, _-_}
 use mathlib.Core.List.{List, [], _∷_, _++_}
 use lib.ListN.{length, replicate}
 use Rattle.lists.specs.Lists.{at}
-use Rattle.rule.specs.Setups.{asked, setupRefusal, plain}
+use Rattle.rule.specs.Setups.{asked, setupRefusal, plain, orPlain}
 use Rattle.rule.specs.State.{State, fresh}
 use Rattle.rule.specs.Calls.{Call, request, advance, drain, refusal, call, calls}
 use Rattle.rule.specs.Cases.{Said, number, Case, robin}
@@ -106,6 +106,7 @@ left =
     ∷ leaves (at (oneThenIdle (robin 2 1) .done) 0) 3 ∷ leaves (oneThenIdle (robin 2 1) .idle) 9
     ∷ leaves (call (calls (fresh plain) (request 0 0 5 ∷ [])) (advance 2) .used) 0
     ∷ leaves (setupRefusal plain) 0 ∷ leaves (plain .count) 1
+    ∷ leaves (orPlain (robin 2 1) .count) 2 ∷ leaves (orPlain (robin 2 0) .count) 1
     -- one entry for each of the 32 tasks
     ∷ leaves (length (fresh plain .owed)) 32 ∷ leaves (length (fresh plain .given)) 32 ∷ leaves (length (fresh plain .done)) 32
     ∷ clocked twoTicks (request 1 0 1) 0 ∷ clocked twoTicks (request 2 0 1) 2

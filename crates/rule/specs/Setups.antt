@@ -40,3 +40,7 @@ setupRefusal p =
 -- fixed run").
 abbrev pub plain : Setup
 plain = asked 1 1 0 (replicate 32 0)
+
+-- The setup that a run is made of: the one asked for, or `plain` where that is refused.
+abbrev pub orPlain : Setup → Setup
+orPlain p = cond (eqb (setupRefusal p) 0) p plain

@@ -1,11 +1,9 @@
 -- A run as the rule's state, and what a setup and a call promise of the run that they give. Assumes nothing.
 use Prim.Native.Nat.{ℕ, _-_, _≤_}
 use mathlib.Core.Path.{_≡_}
-use mathlib.Core.Bool.{cond}
 use mathlib.Core.List.{List}
 use lib.ListN.{take, drop, length, replicate}
-use lib.Dec.{eqb}
-use Rattle.rule.specs.Setups.{setupRefusal, plain}
+use Rattle.rule.specs.Setups.{setupRefusal, orPlain}
 use Rattle.rule.specs.State.{State, fresh}
 use Rattle.rule.specs.Calls.{Call, refusal, call, Made}
 use Rattle.rule.specs.declared.Setup.{Setup}
@@ -43,7 +41,7 @@ pub record Shows (r : Run) (s : State) : Type 0 where
 -- A setup's number (0: accepted) and run: the fresh run of the setup, or of `plain` where it is refused.
 pub record Started (p : Setup) (number : ℕ) (r : Run) : Type 0 where
   pub answer : number ≡ setupRefusal p
-  pub run : Shows r (fresh (cond (eqb (setupRefusal p) 0) p plain))
+  pub run : Shows r (fresh (orPlain p))
 
 -- A call's number (0: accepted) and the run afterwards.
 pub record Promised (before : Run) (c : Call) (number : ℕ) (after : Run) : Type 0 where
