@@ -141,3 +141,8 @@ pub fn run(program: impl AsRef<std::ffi::OsStr>) -> std::process::Command {
     command.arg(program);
     command
 }
+
+/// The number of cases to draw: where the library's calls go through an emulator a third of those named.
+pub fn fewer(cases: u64) -> u64 {
+    if cfg!(target_arch = "x86_64") { cases } else { cases.div_ceil(3) }
+}

@@ -8,7 +8,7 @@ use anduri_tests::jumps::Jumps;
 use anduri_tests::oracle::Oracle;
 use anduri_tests::script::{same, Script};
 use anduri_tests::shrink::failure;
-use anduri_tests::{run, Replay, LAST_TIME};
+use anduri_tests::{fewer, run, Replay, LAST_TIME};
 use std::cell::RefCell;
 use std::io::{BufRead, BufReader, Write};
 use std::path::{Path, PathBuf};
@@ -138,10 +138,10 @@ fn logs(cases: u64) -> Vec<Drawn<LogCase>> {
 #[test]
 fn answers_in_c() {
     let program = Program::started(&compiled("calls", &["calls.c"], &[]), "");
-    program.hold(&small(800));
-    program.hold(&at_limits(800));
-    program.hold(&tables(2_000));
-    program.hold(&logs(800));
+    program.hold(&small(fewer(800)));
+    program.hold(&at_limits(fewer(800)));
+    program.hold(&tables(fewer(2_000)));
+    program.hold(&logs(fewer(800)));
 }
 
 /// The cases reach every answer, times above the last one, and completions beyond it.
@@ -173,8 +173,9 @@ fn wrong_answers_are_found() {
     }
     for fault in faults() {
         let program = Program::started(&path, fault);
-        let calls = || program.failure(&small).or_else(|| program.failure(&at_limits));
-        let found = calls().or_else(|| program.failure(&tables)).or_else(|| program.failure(&logs));
+        // Tables and logs print the least.
+        let others = || program.failure(&tables).or_else(|| program.failure(&logs));
+        let found = others().or_else(|| program.failure(&small)).or_else(|| program.failure(&at_limits));
         let text = found.unwrap_or_else(|| panic!("{fault} is not found"));
         println!("{fault}\n{text}\n");
         assert!(text.contains("# seed ") && text.contains("setup "), "{fault}: {text}");

@@ -8,7 +8,7 @@ use anduri_tests::gen::{call_case, edge_setup, log_case, table_case, CallCase, R
 use anduri_tests::jumps::Jumps;
 use anduri_tests::oracle::Oracle;
 use anduri_tests::shrink::hold;
-use anduri_tests::{Replay, Row, Setup};
+use anduri_tests::{fewer, Replay, Row, Setup};
 
 fn number_of(name: &str, otherwise: u64) -> u64 {
     let Ok(text) = std::env::var(name) else { return otherwise };
@@ -18,7 +18,7 @@ fn number_of(name: &str, otherwise: u64) -> u64 {
 /// The seeds of this run: `cases` of them, times ANDURI_TIMES.
 fn seeds(cases: u64) -> std::ops::Range<u64> {
     let first = number_of("ANDURI_SEED", 1);
-    let count = cases * number_of("ANDURI_TIMES", 1);
+    let count = fewer(cases) * number_of("ANDURI_TIMES", 1);
     println!("seeds {first} to {}", first + count - 1);
     first..first + count
 }

@@ -1,15 +1,15 @@
 -- Laws of the calls by value: a promise from what a state shows; the numbers and effects of advances and drains. Assumes
 -- nothing.
-use Prim.Native.Nat.{ℕ, _+_, _-_, _≤_, _<_}
+use Prim.Native.Nat.{ℕ, _+_, _-_}
 use native.Mathlib.Omega.{arith}
 use mathlib.Core.Path.{_≡_, refl, sym, _∙_}
-use borrow.Author.Tests.{lt-ltb, le-ltb}
 use Rattle.lists.specs.Lists.{total}
 use Rattle.rule.specs.State.{State}
-use Rattle.rule.specs.Calls.{lastTime, moved, drained, Call, advance, drain, advanceRefusal, refusal, effect}
+use Rattle.rule.specs.Calls.{moved, drained, Call, advance, drain, advanceRefusal, refusal, effect}
 use Rattle.rule.specs.View.{view, Shows, Promised}
 use Rattle.rule.specs.declared.Run.{Run}
 use Rattle.laws.proofs.Refusals.{refused-stays, accepted-acts}
+use Rattle.requests.specs.Early.{timeRefusal}
 
 -- ---- promises from states
 
@@ -28,18 +28,9 @@ promised-accepted run c n m r f e z h =
 
 -- ---- advances
 
-pub advance-late : (s : State) (t : ℕ) → lastTime < t → 10 ≡ refusal s (advance t)
-unfolding refusal advanceRefusal
-advance-late s t h = rw (lt-ltb lastTime t h)
-
-module _ (s : State) (t : ℕ) (h : t ≤ lastTime) where
-  pub advance-early : t < s .clock → 11 ≡ refusal s (advance t)
-  unfolding refusal advanceRefusal
-  advance-early g = rw (le-ltb lastTime t h, lt-ltb t (s .clock) g)
-
-  pub advance-fits : s .clock ≤ t → 0 ≡ refusal s (advance t)
-  unfolding refusal advanceRefusal
-  advance-fits g = rw (le-ltb lastTime t h, le-ltb t (s .clock) g)
+pub advance-refusal : (s : State) (t : ℕ) → timeRefusal (s .clock) t ≡ refusal s (advance t)
+unfolding refusal advanceRefusal timeRefusal
+advance-refusal s t = refl
 
 pub advance-effect : (s : State) (t : ℕ) → moved s t ≡ effect s (advance t)
 unfolding effect

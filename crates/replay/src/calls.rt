@@ -101,15 +101,10 @@ pub fn advance(run: Run, time: u32) -> Moved
     requires { ⌜ MadeRun run ⌝ }
     ensures { λ r. ⌜ Promised run (advance time) (callNumber (r .answer)) (r .run) ⌝ }
 {
-    if 4_000_000_000 < time {
+    let late = requests::time_refusal(run.clock, time);
+    if late != 0 {
         return Moved {
-            answer: CallAnswer::TimePastLimit,
-            run,
-        };
-    }
-    if time < run.clock {
-        return Moved {
-            answer: CallAnswer::TimeBeforeClock,
+            answer: answer_of(late),
             run,
         };
     }

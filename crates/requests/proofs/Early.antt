@@ -10,7 +10,7 @@ use Rattle.lists.specs.Lists.{at, within}
 use Rattle.lists.proofs.Testing.{cond-true, cond-false, passed}
 use Rattle.rule.specs.State.{State, isOpen}
 use Rattle.rule.specs.Calls.{lastTime, mostAmount, moved, requestRefusal}
-use Rattle.requests.specs.Early.{earlyRefusal}
+use Rattle.requests.specs.Early.{timeRefusal, earlyRefusal}
 
 abbrev four : Bool → Bool → Bool → Bool → ℕ → ℕ
 four a b c d n = cond a 10 (cond b 11 (cond c 12 (cond d 13 n)))
@@ -29,6 +29,40 @@ four-between false true c d h = (omega arith, omega arith)
 four-between false false true d h = (omega arith, omega arith)
 four-between false false false true h = (omega arith, omega arith)
 four-between false false false false h = absurd (h refl)
+
+-- ---- times
+
+abbrev two : Bool → Bool → ℕ → ℕ
+two a b n = cond a 10 (cond b 11 n)
+
+two-first : (a b : Bool) (n : ℕ) → (two a b 0 ≡ 0 → ⊥) → two a b 0 ≡ two a b n
+two-first true b n h = refl
+two-first false true n h = refl
+two-first false false n h = absurd (h refl)
+
+two-between : (a b : Bool) → (two a b 0 ≡ 0 → ⊥) → (10 ≤ two a b 0) × (two a b 0 ≤ 13)
+two-between true b h = (omega arith, omega arith)
+two-between false true h = (omega arith, omega arith)
+two-between false false h = absurd (h refl)
+
+pub time-first : (count clock t k a : ℕ) → (timeRefusal clock t ≡ 0 → ⊥)
+    → timeRefusal clock t ≡ earlyRefusal count clock t k a
+unfolding timeRefusal earlyRefusal
+time-first count clock t k a = two-first (ltb lastTime t) (ltb t clock) _
+
+pub time-between : (clock t : ℕ) → (timeRefusal clock t ≡ 0 → ⊥)
+    → (10 ≤ timeRefusal clock t) × (timeRefusal clock t ≤ 13)
+unfolding timeRefusal
+time-between clock t = two-between (ltb lastTime t) (ltb t clock)
+
+pub time-passed : (clock t : ℕ) → timeRefusal clock t ≡ 0 → (t ≤ lastTime) × (clock ≤ t)
+unfolding timeRefusal
+time-passed clock t e =
+    let p10 = passed (ltb lastTime t) 9 _ e in
+    let p11 = passed (ltb t clock) 10 _ (p10 .1) in
+    (ltb-false lastTime t (p10 .0), ltb-false t clock (p11 .0))
+
+-- ---- requests
 
 -- what a request that is not refused before the clock moves has shown
 pub record Passed (count clock t k a : ℕ) : Type 0 where

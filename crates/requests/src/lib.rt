@@ -1,16 +1,27 @@
-// Judging a request before the clock moves, refusals 10 to 13: one place for runs and tables.
+// Judging a call before the clock moves, refusals 10 to 13: one place for runs and tables.
 ghost use mathlib.Core.Path.{_≡_};
-ghost use Rattle.requests.specs.Early.{earlyRefusal};
+ghost use Rattle.requests.specs.Early.{timeRefusal, earlyRefusal};
 
-// The refusal of a request by 10 to 13, or 0.
-pub fn early_refusal(count: u32, clock: u32, time: u32, task: u32, amount: u32) -> u32
-    ensures { λ r. ⌜ r ≡ earlyRefusal count clock time task amount ⌝ }
+// The refusal of a time by 10 or 11, or 0.
+pub fn time_refusal(clock: u32, time: u32) -> u32
+    ensures { λ r. ⌜ r ≡ timeRefusal clock time ⌝ }
 {
     if 4_000_000_000 < time {
         return 10;
     }
     if time < clock {
         return 11;
+    }
+    0
+}
+
+// The refusal of a request by 10 to 13, or 0.
+pub fn early_refusal(count: u32, clock: u32, time: u32, task: u32, amount: u32) -> u32
+    ensures { λ r. ⌜ r ≡ earlyRefusal count clock time task amount ⌝ }
+{
+    let late = time_refusal(clock, time);
+    if late != 0 {
+        return late;
     }
     if count <= task {
         return 12;

@@ -1,40 +1,50 @@
 -- `replay::calls::advance` meets its contract: refused by 10 or 11 with the run that was given, or moved. Assumes nothing.
 use native.Mathlib.Omega.{arith}
-use mathlib.Core.Path.{refl}
+use mathlib.Core.Path.{_≡_, refl, sym, _∙_}
 use Rattle.rule.specs.Calls.{Call, advance}
 use Rattle.rule.specs.View.{view}
 use Rattle.laws.proofs.Made.{made-sound}
-use Rattle.replay.proofs.Calling.{shows-then, promised-refused, promised-accepted, advance-late, advance-early, advance-fits, advance-effect}
+use Rattle.requests.specs.Early.{timeRefusal}
+use Rattle.requests.proofs.Early.{time-between, time-passed}
+use Rattle.replay.proofs.Calling.{shows-then, promised-refused, promised-accepted, advance-refusal, advance-effect}
 use Rattle.replay.proofs.calls.advance.Statement.{statement}
 use Rattle.replay.proofs.calls.advance.Tie as tie
 
 abbrev asking : tie.Start → Call
 asking c = advance (c .args .time)
 
+-- the place past the refusals
+fits : (c : tie.Else1) → let a = c .before .before .args in timeRefusal (a .run .clock) (a .time) ≡ 0
+fits c = sym (c .before .time-refusal .ensures) ∙ c .if1 .left
+
+time-refusal-requires : tie.Need-time-refusal-requires
+time-refusal-requires c κs = tt
+
+answer-of-requires : tie.Need-answer-of-requires
+answer-of-requires c κs =
+    let e = c .before .time-refusal .ensures in
+    let b = time-between _ _ (λ z. c .if1 .taken (e ∙ z)) in
+    (omega (arith, e, b .0), omega (arith, e, b .1))
+
 returns : tie.Need-returns
 returns c =
-    let s = c .before in
-    promised-refused _ (asking s) _ 10 refl (advance-late _ _ (c .if1 .taken)) (λ z. omega arith)
-    record { tidy = s .pre .tidy; shown = refl }
-
-returns-2 : tie.Need-returns-2
-returns-2 c =
     let s = c .before .before .before in
-    promised-refused _ (asking s) _ 11 refl
-    (advance-early (view (s .args .run)) _ (c .before .before .if1 .left) (c .if2 .taken)) (λ z. omega arith)
+    promised-refused _ (asking s) _ _ (c .answer-of .ensures)
+    (c .before .before .time-refusal .ensures ∙ advance-refusal (view (s .args .run)) _) (c .before .if1 .taken)
     record { tidy = s .pre .tidy; shown = refl }
 
 moved-to-requires : tie.Need-moved-to-requires
 moved-to-requires c κs =
-    let s = c .before .before .before in
-    (s .pre .tidy, (made-sound _ (s .pre .made), (c .if2 .left, omega (arith, c .before .before .if1 .left))))
+    let s = c .before .before in
+    let p = time-passed _ _ (fits c) in
+    (s .pre .tidy, (made-sound _ (s .pre .made), (p .1, omega (arith, p .0))))
 
-returns-3 : tie.Need-returns-3
-returns-3 c =
-    let s = c .before .before .before .before in
+returns-2 : tie.Need-returns-2
+returns-2 c =
+    let s = c .before .before .before in
     promised-accepted _ (asking s) _ 0 _ refl
-    (advance-fits (view (s .args .run)) _ (c .before .before .before .if1 .left) (c .before .if2 .left)) refl
+    (sym (fits (c .before)) ∙ advance-refusal (view (s .args .run)) _) refl
     (shows-then (c .moved-to .ensures) (advance-effect _ _))
 
 pub advance-spec : {M : Type 1} → statement M
-advance-spec = tie.close (tie.spec returns returns-2 moved-to-requires returns-3)
+advance-spec = tie.close (tie.spec time-refusal-requires answer-of-requires returns moved-to-requires returns-2)
