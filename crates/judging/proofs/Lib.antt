@@ -2,3 +2,4 @@ pub mod Blocks
 pub mod Judging
 pub mod Accepted
 pub mod Unique
+pub mod Refused

@@ -1,18 +1,14 @@
--- The text of a log: of one that reads, by its columns; of one that is refused, whose block is a small number. Assumes nothing.
-use Prim.Native.Nat.{ℕ, zero, suc, _+_, _%_, _≤_, _<_}
+-- The text of a log: of one that reads, by its columns; of one that is refused. Assumes nothing.
+use Prim.Native.Nat.{ℕ, _≤_}
 use native.Mathlib.Omega.{arith}
 use mathlib.Core.Path.{_≡_, sym, ap, _∙_}
 use mathlib.Core.List.{List}
 use lib.ListN.{length, take}
-use lib.Dec.{eqb}
-use Rattle.lists.specs.Lists.{within}
-use Rattle.lists.proofs.Testing.{tested, and-true, within-true}
 use Rattle.rule.specs.Setups.{setupRefusal}
 use Rattle.rule.specs.State.{fresh}
 use Rattle.rule.specs.Table.{outcomeFrom, rows, columnRefusal}
 use Rattle.rule.specs.declared.Setup.{Setup}
-use Rattle.judging.specs.Blocks.{blocks, lengthFits}
-use Rattle.judging.specs.Log.{Verdict, accepted, refused, blockRefusal, judgedFrom, judged, Reads}
+use Rattle.judging.specs.Log.{refused, judged, Reads}
 use Rattle.log.specs.Records.{setupOf, askedTimes, askedTasks, askedAmounts, rowList}
 use Rattle.log.proofs.Setups.{accepted-setup}
 use Rattle.log.proofs.Rows.{column-most, columns-fit}
@@ -69,24 +65,6 @@ module _ (log : List ℕ) (h : Reads log) where
     log-text p ep = text-same (take n times) (take n tasks) (take n amounts) p times-are tasks-are amounts-are ep
 
 -- ---- a log that is refused
-
-from-place : (log : List ℕ) (i left n j : ℕ) → judgedFrom log i left ≡ refused n j → j < i + left
-unfolding judgedFrom
-from-place log i zero n j e = absurd (let y : _≡_ {A = ℕ} 0 1 = cc in omega arith)
-from-place log i (suc left) n j e =
-    tested (eqb (blockRefusal log i) 0)
-    (λ f. let h = from-place log (i + 1) left n j (rw f at e) in omega arith)
-    (λ f. let h : refused (blockRefusal log i) i ≡ refused n j = rw f at e in let k : i ≡ j = cc in omega arith)
-
-pub refused-small : (log : List ℕ) (n j : ℕ) → judged log ≡ refused n j → j ≤ 26
-unfolding judged lengthFits
-refused-small log n j e =
-    tested (lengthFits log)
-    (λ f.
-    let few = within-true 1 26 (blocks log) (and-true (eqb (length log % 512) 0) (within 1 26 (blocks log)) f .1) .1 in
-    let h = from-place log 0 (blocks log) n j (rw f at e) in
-    omega arith)
-    (λ f. let h : refused 30 0 ≡ refused n j = rw f at e in let k : 0 ≡ j = cc in omega arith)
 
 pub refused-text : (log : List ℕ) (n j : ℕ) → judged log ≡ refused n j → refusedLine n j ≡ reportText log
 unfolding reportText printed
