@@ -6,7 +6,8 @@
 --                      h′ at exit
 --     ended, clauses, function                 f's, to which what `rattle check` makes of f computes
 --     thin             f meets its contract, from that g does, and that Said gives Claim
--- In order: the two functions, f's exit, the walk, the law. Assumes nothing.
+-- In order: the two functions, f's exit, the walk, the law. Peek names the same places of its walk (a′, x, Post, to):
+-- from another file each would take all that is bound before it, and be as long. Assumes nothing.
 use Prim.Native.Nat.{ℕ, suc}
 use mathlib.Core.Path.{_≡_, refl, ap, subst⁻¹}
 use mathlib.Core.List.{[], _∷_, List}
@@ -16,39 +17,38 @@ use lib.Dec.{T as Holds}
 use mir.Syntax.{Name, Ty, tyRef, named, mut, deref, field, place, copy, rvOpd, seq, assign, call, return, local}
 use mir.Syntax.{valueLocal, Fn}
 use mir.Val.{Val, WT, hasTy, vptr}
-use base.Logic.{SProp, ent, sep, id⊢}
+use base.Logic.{SProp, ent, sep}
 use base.Fml.{GName, Lft, Share, ftrue, flft, fobs, fbor, fat}
-use prog.Wp.{Heap, Calls, Loops, WpFn, Closed, Tables}
+use prog.Wp.{Heap, Calls, Loops, WpFn, Closed}
 use ghost.Atoms.{Atoms}
-use contract.Monad.{fact}
 use contract.Running.{Running, GhostRules, givenOf, tables}
 use prog.Model.{Model}
 use prog.Routine.{Routine, Env}
-use types.Kit.{Given, ‵, raw, _⊛_, ⋆, some, later, _$_, _∵_, !, qed, by, move, keep, drop, use0, use1, split, join}
-use types.Kit.{pick, rewrite, fsplit, fsplit3, fjoin, fjoin3, feqI, suffices, frame, await, done}
+use types.Kit.{Given, ‵, raw, _⊛_, ⋆, _$_, _∵_, !, qed, by, move, keep, drop, use0, use1, split, join, rewrite}
+use types.Kit.{fsplit, fsplit3, fjoin, fjoin3, feqI, suffices, frame, done}
 use types.Run.{look, look-raw, init, store-raw, forget, stop, hop, fld, from, load, of-opd, and-then, assigns, land}
 use types.Run.{returns, enter, alloc1, alloc0, params1, pass1, pass0, free1, free0}
 use types.Part.{whole, sub, look-in}
 use types.SemTy.{Body}
-use sound.WpLaws.{FmC, fmOf, WpFn-mono}
+use sound.WpLaws.{FmC}
 use denote.RattleType.{RattleType, owns}
 use denote.Laws.{Is, shows}
 use denote.Memory.{mem, pointee}
 use denote.Ref.{RefT, MutRef, now, ptr-vals, mut-tells}
 use denote.Signature.{plain}
-use denote.Steps.{only, opens, closes, owned, peeks, heard, nothing}
+use denote.Steps.{only, opens, closes, owned, peeks, nothing}
 use denote.Struct.Declared.{Declared, fields, shape, row}
 use denote.Struct.Struct.{Plains, layout}
 use denote.Struct.Steps.{spelt}
 use denote.Struct.Laws as LL
 use denote.Triple.Statement.{Contract, Triple}
 use denote.Triple.Call.{calls-at}
-use denote.Triple.Clauses.{Clauses, Ended, closing, ensured}
+use denote.Triple.Clauses.{Clauses, Ended, closing}
 use denote.Triple.Entry.{onEntry}
-use denote.Triple.Spec.{Meets, tripleOf}
-use denote.Triple.Walked.{says, Stays, stay-ref, hasOf, walkOf, goes-ref, Walks, ends-at, walked, walk-meets}
+use denote.Triple.Spec.{Meets}
+use denote.Triple.Walked.{says, Stays, stay-ref, hasOf, walkOf, goes-ref, ends-at, walked}
 use Rattle.walk_laws.proofs.Answered.{Answered, both, both-types}
-use Rattle.walk_laws.proofs.Calling.{over}
+use Rattle.walk_laws.proofs.Calling.{by-walk}
 use Rattle.walk_laws.proofs.Contracts as con
 use Rattle.walk_laws.proofs.Data.{Data}
 use Rattle.walk_laws.proofs.Parameters.{slots, kept, stay, rows, Values, spells, tell, lists, machine, Known}
@@ -78,6 +78,9 @@ module _ (T : Declared) (L : LL.Laws T) (ps : List Data) (P : Answered T L)
 
   abbrev pub ended : Ended
   ended = con.lent R ps (S .type)
+
+  abbrev stayed : Stays (ended .signature .params) (ended .kept)
+  stayed = (stay-ref (0 ∷ []) tt (plain (λ _. R)), stay 1 ps)
 
   -- the places of f's locals: the answer, the reference, the parameters, g's result, the state
   abbrev atD : ℕ
@@ -121,21 +124,24 @@ module _ (T : Declared) (L : LL.Laws T) (ps : List Data) (P : Answered T L)
     abbrev valD : D .Denot → Val
     valD d = both T L S (P .answer d) (P .next d)
 
-    module _ {M : Type 1} (𝓤 : URA M) (H : Heap 𝓤) (A : Atoms 𝓤) (W : Given 𝓤 H A)
+    module _ {M : Type 1} (𝓤 : URA M) (H : Heap 𝓤) (𝓜 : Model 𝓤 H) (𝓖 : GhostRules 𝓤 H) (𝓡 : Running 𝓤 H 𝓜)
         (need : T .D → Values 0 tt ps → SProp 𝓤)
         (claims : (h : T .D) (a : Values 0 tt ps) (d : D .Denot) → Said h a d → Claim h a (P .answer d) (P .next d))
-        (g : Name) where
-      abbrev stayed : Stays (ended .signature .params) (ended .kept)
-      stayed = (stay-ref (0 ∷ []) tt (plain (λ _. R)), stay 1 ps)
+        (γ : Env) (name g : Name) where
+      abbrev A : Atoms 𝓤
+      A = 𝓖 .A
 
-      module _ (κ : Lft) (q : Share) (b o : ℕ) (γ : GName) (h : T .D) (a : Values 1 (κ, tt) ps)
+      abbrev W : Given 𝓤 H A
+      W = givenOf 𝓤 H 𝓜 𝓖
+
+      module _ (κ : Lft) (q : Share) (b o : ℕ) (δ : GName) (h : T .D) (a : Values 1 (κ, tt) ps)
           (is : Known 1 (κ, tt) ps a) where
         -- the parameters as g has them
         abbrev a′ : Values 0 tt ps
         a′ = across 1 0 (κ, tt) tt ps a
 
         abbrev x : RefT (T .D) × Values 1 (κ, tt) ps
-        x = (record { ptr = (b, o); name = γ; now = h }, a)
+        x = (record { ptr = (b, o); name = δ; now = h }, a)
 
         abbrev Post : Val → SProp 𝓤
         Post =
@@ -149,10 +155,10 @@ module _ (T : Declared) (L : LL.Laws T) (ps : List Data) (P : Answered T L)
 
         exits : (d : D .Denot) → Said h a′ d → Is D d (valD d ∷ [])
             → ent 𝓤
-            (⋆ 𝓤 H A (‵ (fobs γ (R .coded .code (P .next d))) ∷ ‵ (fbor κ (Body (mem R) b o γ)) ∷ ‵ (flft κ q) ∷ []))
+            (⋆ 𝓤 H A (‵ (fobs δ (R .coded .code (P .next d))) ∷ ‵ (fbor κ (Body (mem R) b o δ)) ∷ ‵ (flft κ q) ∷ []))
             (Post (S .val (P .answer d)))
         exits d e isD =
-            qed W (‵ (fobs γ (R .coded .code (P .next d))) ∷ ‵ (fbor κ (Body (mem R) b o γ)) ∷ ‵ (flft κ q) ∷ []) ∵
+            qed W (‵ (fobs δ (R .coded .code (P .next d))) ∷ ‵ (fbor κ (Body (mem R) b o δ)) ∷ ‵ (flft κ q) ∷ []) ∵
             suffices ! _
             (ends-at 𝓤 H A ended stayed (clauses 𝓤 need) W
             (((κ, tt), (q, tt), tt, x, (vptr b o ∷ [], lists 1 (κ, tt) ps a)), tt)
@@ -197,16 +203,7 @@ module _ (T : Declared) (L : LL.Laws T) (ps : List Data) (P : Answered T L)
               calls-at ! fm (Callee 𝓤 need H A) known to
               (and-then ! (load ! (from-at ! (after-env ps bs (rest l₂ l₃) 1) (stop !)) (look ! 6 refl))
               (read-all 𝓤 H A W 1 (κ, tt) 0 tt ps bs a 5 _ _ (rest l₂ l₃) (λ k. suc (suc k)) (λ j d. refl) refl !))
-              (λ v.
-              use1 W
-              (later (some (λ (d : D .Denot).
-              (‵ ftrue ⊛ ‵ (D .own d (v ∷ [])))
-              ⊛ raw (ensured 𝓤 H A (con.by-value R ps D) (con.by-value-clauses R ps D 𝓤 need Said) tt (h, a′) tt d))))
-              (id⊢ 𝓤 _) $
-              await ! tt $ pick ! (λ d. split ! $ move ! (1 ∷ []) $ use1 W (raw (fact 𝓤 (Said h a′ d)))
-              (con.said T L ps D 𝓤 H A W need Said h a′ d) $
-              heard ! (Said h a′ d) (λ e. split ! $ drop ! $
-              peeks ! D (Is D) (shows 𝓤 H A D) d (v ∷ []) (λ isV.
+              (λ v. con.gave T L ps D 𝓤 H A W need Said h a′ ! tt v (λ d e isV.
               rewrite ! 0 (λ (us : List Val). ‵ (D .own d us)) (P .tells d (v ∷ []) isV) refl $
               peeks ! D (Is D) (shows 𝓤 H A D) d (valD d ∷ []) (λ isD. drop ! $
               land ! (from-at ! (after-env ps bs (rest l₂ l₃) 0) (stop !))
@@ -230,33 +227,17 @@ module _ (T : Declared) (L : LL.Laws T) (ps : List Data) (P : Answered T L)
               move ! (3 ∷ []) $ use1 W (‵ (rooms ps bs)) (forget-all 𝓤 H A W 1 (κ, tt) ps bs a) $
               move ! (10 ∷ 11 ∷ []) $ free1 ! $ move ! (8 ∷ 9 ∷ []) $ free1 ! $ free-all ! ps bs $
               move ! (5 ∷ 6 ∷ []) $ free1 ! $ move ! (3 ∷ 4 ∷ []) $ free1 ! $ free0 ! $
-              keep ! (0 ∷ 1 ∷ 2 ∷ []) $ by ! (exits d e isD)))))))))))))
+              keep ! (0 ∷ 1 ∷ 2 ∷ []) $ by ! (exits d e isD)))))))))))
 
       -- ---- the law
 
-      walks : (C : Calls 𝓤 H) (Λ : Loops 𝓤 H) → FmC 𝓤 H (W .laws) C → Triple 𝓤 (C g) (Callee 𝓤 need H A)
-          → Walks 𝓤 H A ended stayed (WpFn 𝓤 H C Λ (function g)) (clauses 𝓤 need)
-      walks C Λ fm known =
-          walked 𝓤 H A ended stayed (clauses 𝓤 need) (WpFn 𝓤 H C Λ (function g))
+      pub thin : Closed 𝓤 H (tables 𝓤 H 𝓜 𝓡 γ .C) (tables 𝓤 H 𝓜 𝓡 γ .Λ) name (function g)
+          → (r : Routine) → γ g ≡ r → Triple 𝓤 (𝓡 .run r) (Callee 𝓤 need H A)
+          → Meets 𝓤 H A (ended .signature) (𝓡 .run (γ name)) (closing 𝓤 H A ended (clauses 𝓤 need))
+      thin =
+          by-walk 𝓤 H 𝓜 𝓡 γ 𝓖 ended stayed (clauses 𝓤 need) (Callee 𝓤 need H A)
+          (goes-ref 𝓤 H A W 1 0 tt (plain (λ _. R)), goes 1 𝓤 H A W ps) name g (function g)
+          (λ C Λ fm known. walked 𝓤 H A ended stayed (clauses 𝓤 need) (WpFn 𝓤 H C Λ (function g))
           (λ κs. (ptr-vals, spells 1 κs ps)) (λ κs. (mut-tells (named 0) (κs .0) R, tell 1 κs ps))
-          (λ κs qs bounds a _ are.
-          walk (κs .0) (qs .0) (a .0 .ptr .0) (a .0 .ptr .1) (a .0 .name) (a .0 .now) (a .1) (are .1) C Λ fm known)
-
-      meets : (𝓣 : Tables 𝓤 H) → Triple 𝓤 (𝓣 .C g) (Callee 𝓤 need H A)
-          → Meets 𝓤 H A (ended .signature) (WpFn 𝓤 H (𝓣 .C) (𝓣 .Λ) (function g)) (closing 𝓤 H A ended (clauses 𝓤 need))
-      meets 𝓣 known =
-          walk-meets 𝓤 H A ended stayed W (goes-ref 𝓤 H A W 1 0 tt (plain (λ _. R)), goes 1 𝓤 H A W ps) (clauses 𝓤 need)
-          (WpFn 𝓤 H (𝓣 .C) (𝓣 .Λ) (function g)) (WpFn-mono 𝓤 H (W .laws) 𝓣 (function g))
-          (walks (𝓣 .C) (𝓣 .Λ) (fmOf 𝓤 H (W .laws) 𝓣) known)
-
-    module _ {M : Type 1} (𝓤 : URA M) (H : Heap 𝓤) (𝓜 : Model 𝓤 H) (𝓖 : GhostRules 𝓤 H) (𝓡 : Running 𝓤 H 𝓜)
-        (need : T .D → Values 0 tt ps → SProp 𝓤)
-        (claims : (h : T .D) (a : Values 0 tt ps) (d : D .Denot) → Said h a d → Claim h a (P .answer d) (P .next d))
-        (γ : Env) where
-      pub thin : (name g : Name) → Closed 𝓤 H (tables 𝓤 H 𝓜 𝓡 γ .C) (tables 𝓤 H 𝓜 𝓡 γ .Λ) name (function g)
-          → (r : Routine) → γ g ≡ r → Triple 𝓤 (𝓡 .run r) (Callee 𝓤 need H (𝓖 .A))
-          → Meets 𝓤 H (𝓖 .A) (ended .signature) (𝓡 .run (γ name)) (closing 𝓤 H (𝓖 .A) ended (clauses 𝓤 need))
-      thin name g unfolded r calls met =
-          over 𝓤 H 𝓜 𝓡 γ (tripleOf 𝓤 H (𝓖 .A) (ended .signature) (closing 𝓤 H (𝓖 .A) ended (clauses 𝓤 need)))
-          (Callee 𝓤 need H (𝓖 .A)) name (function g) unfolded g r calls met
-          (meets 𝓤 H (𝓖 .A) (givenOf 𝓤 H 𝓜 𝓖) need claims g)
+          (λ κs qs bounds a _ are. walk (κs .0) (qs .0) (a .0 .ptr .0) (a .0 .ptr .1)
+          (a .0 .name) (a .0 .now) (a .1) (are .1) C Λ fm known))

@@ -1,5 +1,5 @@
--- A state in memory, as a local of type τ has it, as a borrow has it: the type of the state and τ may differ in names of
--- lifetimes. In order: with what the state owns, in and out; of plain data, which owns nothing. Assumes nothing.
+-- A state in memory, as a local of type τ has it, as a borrow has it: the type of the state and τ may differ in names
+-- of lifetimes. In order: with what the state owns, in and out; of plain data, which owns nothing. Assumes nothing.
 use Prim.Native.Nat.{ℕ}
 use mathlib.Core.Path.{_≡_, refl, subst}
 use mathlib.Core.List.{[], _∷_, List}

@@ -1,6 +1,6 @@
 -- Further parameters of a function, plain data each, as one list: so a law of walks is said once for any number of
--- them. In order: the list in a signature of n lifetimes, its values, what they own, and how they leave; the values in
--- one signature as those in another. Assumes nothing.
+-- them. In order: the list in a signature of n lifetimes, its values, what they own, and how they leave; the values
+-- in one signature as those in another. Assumes nothing.
 use Prim.Native.Nat.{ℕ}
 use mathlib.Core.Path.{_≡_, refl, ap, sym, subst}
 use mathlib.Core.List.{List, [], _∷_}

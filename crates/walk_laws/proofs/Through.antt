@@ -19,7 +19,7 @@ use mir.Syntax.{return, local, valueLocal, memorySlot, Fn}
 use mir.Val.{Val, WT, hasTy, vptr}
 use base.Logic.{SProp, ent, sep, id⊢}
 use base.Fml.{GName, ftrue, flft, flent, fat}
-use prog.Wp.{Heap, Calls, Loops, WpFn, Closed, Tables}
+use prog.Wp.{Heap, Calls, Loops, WpFn, Closed}
 use ghost.Atoms.{Atoms}
 use contract.Monad.{fact}
 use contract.Running.{Running, GhostRules, givenOf, tables}
@@ -32,7 +32,7 @@ use types.Run.{look, init, forget, stop, from, load, of-opd, addr, and-then, no-
 use types.Run.{alloc1, alloc0, params1, pass1, pass0, free1, free0}
 use types.SemTy.{Body}
 use types.Tokens.{lft-new, lft-end}
-use sound.WpLaws.{FmC, fmOf, WpFn-mono}
+use sound.WpLaws.{FmC}
 use denote.RattleType.{RattleType, owns}
 use denote.Laws.{Is, shows}
 use denote.Lend.{lends-ref, ref-back}
@@ -47,11 +47,11 @@ use denote.Triple.Call.{calls-at}
 use denote.Triple.Clauses.{Clauses, Ended, closing, ensured, lasts}
 use denote.Triple.End.{Fins}
 use denote.Triple.Entry.{onEntry}
-use denote.Triple.Spec.{Meets, tripleOf}
-use denote.Triple.Walked.{says, Stays, stay-none, hasOf, walkOf, goes-none, Walks, ends-at, walked, walk-meets}
+use denote.Triple.Spec.{Meets}
+use denote.Triple.Walked.{says, Stays, stay-none, hasOf, walkOf, goes-none, ends-at, walked}
 use denote.Exit.{Last, left, yes}
 use Rattle.walk_laws.proofs.Answered.{both, both-types}
-use Rattle.walk_laws.proofs.Calling.{over}
+use Rattle.walk_laws.proofs.Calling.{by-walk}
 use Rattle.walk_laws.proofs.Contracts as con
 use Rattle.walk_laws.proofs.Data.{Data, typed-at}
 use Rattle.walk_laws.proofs.Lying.{lies-in, lies-out}
@@ -79,6 +79,9 @@ module _ (T : Declared) (L : LL.Laws T) (ps : List Data) (S D : Data) (ν : Sym)
 
   abbrev pub ended : Ended
   ended = con.by-value R ps (D .type)
+
+  abbrev stayed : Stays (ended .signature .params) (ended .kept)
+  stayed = (stay-none (λ _. R) yes, stay 0 ps)
 
   -- the place of f's local k of those after its result, the state and the parameters: the state that is lent, the
   -- answer, the reference, the state at exit
@@ -128,20 +131,23 @@ module _ (T : Declared) (L : LL.Laws T) (ps : List Data) (S D : Data) (ν : Sym)
     module _ (val-is : (s : S .type .Denot) (h : T .D) → D .val (make s h) ≡ valD s h)
         (make-is : (s : S .type .Denot) (h : T .D) → Is (S .type) s (S .val s ∷ []) → Is R h (vals h)
         → Is (D .type) (make s h) (D .val (make s h) ∷ []))
-        {M : Type 1} (𝓤 : URA M) (H : Heap 𝓤) (A : Atoms 𝓤) (W : Given 𝓤 H A)
+        {M : Type 1} (𝓤 : URA M) (H : Heap 𝓤) (𝓜 : Model 𝓤 H) (𝓖 : GhostRules 𝓤 H) (𝓡 : Running 𝓤 H 𝓜)
         (need : T .D → Values 0 tt ps → SProp 𝓤)
         (claims : (h : T .D) (a : Values 0 tt ps) (s : S .type .Denot) (h′ : T .D) → Claim h a s h′ → Said h a
         (make s h′))
-        (g : Name) where
-      abbrev stayed : Stays (ended .signature .params) (ended .kept)
-      stayed = (stay-none (λ _. R) yes, stay 0 ps)
+        (γ : Env) (name g : Name) where
+      abbrev A : Atoms 𝓤
+      A = 𝓖 .A
+
+      abbrev W : Given 𝓤 H A
+      W = givenOf 𝓤 H 𝓜 𝓖
 
       module _ (h : T .D) (a : Values 0 tt ps) (isR : Is R h (vals h)) (is : Known 0 tt ps a) where
         abbrev Post : Val → SProp 𝓤
         Post = walkOf 𝓤 H A ended stayed (clauses 𝓤 need) .post ((tt, tt, tt, (h, a), (vals h, lists 0 tt ps a)), tt)
 
-        -- the state lent for the lifetime α, under the name δ, at the block l; and the parameters, as g has them and as
-        -- its clauses have them
+        -- the state lent for the lifetime α, under the name δ, at the block l; and the parameters, as g has them and
+        -- as its clauses have them
         abbrev x : ℕ → ℕ → GName → RefT (T .D)
         x = con.x T L ps (S .type) 𝓤 H A W need Claim h a
 
@@ -265,32 +271,12 @@ module _ (T : Declared) (L : LL.Laws T) (ps : List Data) (S D : Data) (ν : Sym)
 
       -- ---- the law
 
-      walks : (C : Calls 𝓤 H) (Λ : Loops 𝓤 H) → FmC 𝓤 H (W .laws) C → Triple 𝓤 (C g) (Callee 𝓤 need H A)
-          → Walks 𝓤 H A ended stayed (WpFn 𝓤 H C Λ (function g)) (clauses 𝓤 need)
-      walks C Λ fm known =
-          walked 𝓤 H A ended stayed (clauses 𝓤 need) (WpFn 𝓤 H C Λ (function g))
+      pub thin : Closed 𝓤 H (tables 𝓤 H 𝓜 𝓡 γ .C) (tables 𝓤 H 𝓜 𝓡 γ .Λ) name (function g)
+          → (r : Routine) → γ g ≡ r → Triple 𝓤 (𝓡 .run r) (Callee 𝓤 need H A)
+          → Meets 𝓤 H A (ended .signature) (𝓡 .run (γ name)) (closing 𝓤 H A ended (clauses 𝓤 need))
+      thin =
+          by-walk 𝓤 H 𝓜 𝓡 γ 𝓖 ended stayed (clauses 𝓤 need) (Callee 𝓤 need H A)
+          (goes-none 𝓤 H A W 0 (λ _. R) yes (λ κs. silentR), goes 0 𝓤 H A W ps) name g (function g)
+          (λ C Λ fm known. walked 𝓤 H A ended stayed (clauses 𝓤 need) (WpFn 𝓤 H C Λ (function g))
           (λ κs. (vals, spells 0 tt ps)) (λ κs. (LL.tells T L, tell 0 tt ps))
-          (λ κs qs bounds a _ are. walk (a .0) (a .1) (are .0) (are .1) C Λ fm known)
-
-      meets : (𝓣 : Tables 𝓤 H) → Triple 𝓤 (𝓣 .C g) (Callee 𝓤 need H A)
-          → Meets 𝓤 H A (ended .signature) (WpFn 𝓤 H (𝓣 .C) (𝓣 .Λ) (function g)) (closing 𝓤 H A ended (clauses 𝓤 need))
-      meets 𝓣 known =
-          walk-meets 𝓤 H A ended stayed W (goes-none 𝓤 H A W 0 (λ _. R) yes (λ κs. silentR), goes 0 𝓤 H A W ps)
-          (clauses 𝓤 need) (WpFn 𝓤 H (𝓣 .C) (𝓣 .Λ) (function g)) (WpFn-mono 𝓤 H (W .laws) 𝓣 (function g))
-          (walks (𝓣 .C) (𝓣 .Λ) (fmOf 𝓤 H (W .laws) 𝓣) known)
-
-    module _ (val-is : (s : S .type .Denot) (h : T .D) → D .val (make s h) ≡ valD s h)
-        (make-is : (s : S .type .Denot) (h : T .D) → Is (S .type) s (S .val s ∷ []) → Is R h (vals h)
-        → Is (D .type) (make s h) (D .val (make s h) ∷ []))
-        {M : Type 1} (𝓤 : URA M) (H : Heap 𝓤) (𝓜 : Model 𝓤 H) (𝓖 : GhostRules 𝓤 H) (𝓡 : Running 𝓤 H 𝓜)
-        (need : T .D → Values 0 tt ps → SProp 𝓤)
-        (claims : (h : T .D) (a : Values 0 tt ps) (s : S .type .Denot) (h′ : T .D) → Claim h a s h′ → Said h a
-        (make s h′))
-        (γ : Env) where
-      pub thin : (name g : Name) → Closed 𝓤 H (tables 𝓤 H 𝓜 𝓡 γ .C) (tables 𝓤 H 𝓜 𝓡 γ .Λ) name (function g)
-          → (r : Routine) → γ g ≡ r → Triple 𝓤 (𝓡 .run r) (Callee 𝓤 need H (𝓖 .A))
-          → Meets 𝓤 H (𝓖 .A) (ended .signature) (𝓡 .run (γ name)) (closing 𝓤 H (𝓖 .A) ended (clauses 𝓤 need))
-      thin name g unfolded r calls met =
-          over 𝓤 H 𝓜 𝓡 γ (tripleOf 𝓤 H (𝓖 .A) (ended .signature) (closing 𝓤 H (𝓖 .A) ended (clauses 𝓤 need)))
-          (Callee 𝓤 need H (𝓖 .A)) name (function g) unfolded g r calls met
-          (meets val-is make-is 𝓤 H (𝓖 .A) (givenOf 𝓤 H 𝓜 𝓖) need claims g)
+          (λ κs qs bounds a _ are. walk (a .0) (a .1) (are .0) (are .1) C Λ fm known))
