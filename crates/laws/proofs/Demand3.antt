@@ -20,7 +20,8 @@ use Rattle.rule.specs.Calls.{moved, drained, opened, Call, request, advance, dr
 use Rattle.rule.specs.declared.Setup.{Setup}
 use Rattle.laws.specs.Sound.{Sound}
 use Rattle.laws.specs.Accepted.{Requested}
-use Rattle.laws.specs.Backlog.{Ask, amounts, sumAt, sumOf, backlog, emptyTicks, asks, accepted, Accounted}
+use Rattle.laws.specs.Backlog.{Ask, times, tasks, amounts, sumBy, sumAt, sumOf, backlog, emptyTicks, asks}
+use Rattle.laws.specs.Backlog.{accepted, Accounted}
 use Rattle.laws.proofs.Ticks.{moved-clock}
 use Rattle.laws.proofs.Served.{Served, ticked}
 use Rattle.laws.proofs.Refusals.{request-accepted}
@@ -29,44 +30,32 @@ use Rattle.laws.proofs.Made.{none-owed, call-sound, fresh-sound}
 
 -- ---- one request more
 
-pub sumAt-append : (f : Ask → ℕ) (l ds : List Ask) (t : ℕ) → sumAt f (l ++ ds) t ≡ sumAt f l t + sumAt f ds t
-unfolding sumAt
-sumAt-append f [] ds t = omega arith
-sumAt-append f (q ∷ l) ds t = omega (arith, sumAt-append f l ds t)
+pub sumBy-append : (by f : Ask → ℕ) (l ds : List Ask) (n : ℕ)
+    → sumBy by f (l ++ ds) n ≡ sumBy by f l n + sumBy by f ds n
+unfolding sumBy
+sumBy-append by f [] ds n = omega arith
+sumBy-append by f (q ∷ l) ds n = omega (arith, sumBy-append by f l ds n)
 
-pub sumOf-append : (f : Ask → ℕ) (l ds : List Ask) (k : ℕ) → sumOf f (l ++ ds) k ≡ sumOf f l k + sumOf f ds k
-unfolding sumOf
-sumOf-append f [] ds k = omega arith
-sumOf-append f (q ∷ l) ds k = omega (arith, sumOf-append f l ds k)
+module _ (by f : Ask → ℕ) (l : List Ask) (q : Ask) (n : ℕ) where
+  sumBy-same : by q ≡ n → sumBy by f (l ++ q ∷ []) n ≡ sumBy by f l n + f q
+  unfolding sumBy
+  sumBy-same e = omega (arith, sumBy-append by f l (q ∷ []) n, cond-true (f q) 0 (eq-eqb (by q) n e))
 
-module _ (f : Ask → ℕ) (l : List Ask) (q : Ask) where
-  sumAt-same : (t : ℕ) → q .time ≡ t → sumAt f (l ++ q ∷ []) t ≡ sumAt f l t + f q
-  unfolding sumAt
-  sumAt-same t e = omega (arith, sumAt-append f l (q ∷ []) t, cond-true (f q) 0 (eq-eqb (q .time) t e))
-
-  sumAt-other : (t : ℕ) → (q .time ≡ t → ⊥) → sumAt f (l ++ q ∷ []) t ≡ sumAt f l t
-  unfolding sumAt
-  sumAt-other t n = omega (arith, sumAt-append f l (q ∷ []) t, cond-false (f q) 0 (ne-eqb (q .time) t n))
-
-  sumOf-same : (k : ℕ) → q .task ≡ k → sumOf f (l ++ q ∷ []) k ≡ sumOf f l k + f q
-  unfolding sumOf
-  sumOf-same k e = omega (arith, sumOf-append f l (q ∷ []) k, cond-true (f q) 0 (eq-eqb (q .task) k e))
-
-  sumOf-other : (k : ℕ) → (q .task ≡ k → ⊥) → sumOf f (l ++ q ∷ []) k ≡ sumOf f l k
-  unfolding sumOf
-  sumOf-other k n = omega (arith, sumOf-append f l (q ∷ []) k, cond-false (f q) 0 (ne-eqb (q .task) k n))
+  sumBy-other : (by q ≡ n → ⊥) → sumBy by f (l ++ q ∷ []) n ≡ sumBy by f l n
+  unfolding sumBy
+  sumBy-other e = omega (arith, sumBy-append by f l (q ∷ []) n, cond-false (f q) 0 (ne-eqb (by q) n e))
 
 module _ (l : List Ask) (q : Ask) where
   backlog-before : (t : ℕ) → t < q .time → backlog (l ++ q ∷ []) t ≡ backlog l t
   unfolding backlog
-  backlog-before zero h = sumAt-other amounts l q 0 (λ e. omega arith)
+  backlog-before zero h = sumBy-other times amounts l q 0 (λ e. omega arith)
   backlog-before (suc t) h =
-      omega (arith, backlog-before t (omega arith), sumAt-other amounts l q (suc t) (λ e. omega arith))
+      omega (arith, backlog-before t (omega arith), sumBy-other times amounts l q (suc t) (λ e. omega arith))
 
   backlog-then : (t : ℕ) → t ≡ q .time → backlog (l ++ q ∷ []) t ≡ backlog l t + q .amount
   unfolding backlog
-  backlog-then zero e = sumAt-same amounts l q 0 (sym e)
-  backlog-then (suc t) e = omega (arith, backlog-before t (omega arith), sumAt-same amounts l q (suc t) (sym e))
+  backlog-then zero e = sumBy-same times amounts l q 0 (sym e)
+  backlog-then (suc t) e = omega (arith, backlog-before t (omega arith), sumBy-same times amounts l q (suc t) (sym e))
 
   empty-before : (t : ℕ) → t ≤ q .time → emptyTicks (l ++ q ∷ []) t ≡ emptyTicks l t
   unfolding emptyTicks
@@ -153,9 +142,11 @@ opened-counted l s t k a c i z h g =
       idle = omega (arith, h .idle, empty-before l q (s .clock) (omega arith));
       each = λ j.
           equal-or k j
-          (λ e. rw (← e) (omega (arith, sumOf-same amounts l q k refl, h .each k, at-set-same (s .owed) k a inside)))
-          (λ n. omega (arith, sumOf-other amounts l q j n, h .each j, at-set-other (s .owed) k a j (λ e. n (sym e))));
-      none-later = λ u d. omega (arith, sumAt-other amounts l q u (λ e. omega arith), h .none-later u d);
+          (λ e. rw (← e)
+          (omega (arith, sumBy-same tasks amounts l q k refl, h .each k, at-set-same (s .owed) k a inside)))
+          (λ n.
+          omega (arith, sumBy-other tasks amounts l q j n, h .each j, at-set-other (s .owed) k a j (λ e. n (sym e))));
+      none-later = λ u d. omega (arith, sumBy-other times amounts l q u (λ e. omega arith), h .none-later u d);
     }
 
 request-counted : (l : List Ask) (s : State) (t k a : ℕ) → Requested s t k a → Counted l s
@@ -191,7 +182,7 @@ calls-counted l s (c ∷ cs) h =
     (calls-counted (l ++ cond (eqb (refusal s c) 0) (asks s c) []) (call s c) cs (call-counted l s c h))
 
 fresh-counted : (p : Setup) → setupRefusal p ≡ 0 → Counted [] (fresh p)
-unfolding sumAt sumOf backlog emptyTicks total
+unfolding sumBy backlog emptyTicks total
 fresh-counted p e =
     record {
       sound = fresh-sound p e;

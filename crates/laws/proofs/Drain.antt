@@ -12,7 +12,8 @@ use Rattle.lists.proofs.Testing.{tested, cond-true}
 use Rattle.lists.proofs.Totals.{at-le-total, total-le}
 use Rattle.rule.specs.State.{State, fresh}
 use Rattle.rule.specs.Tick.{rest, tick, ticks}
-use Rattle.rule.specs.Calls.{moved, drained, opened, lastTime, mostAmount, Call, request, advance, drain, advanceRefusal, requestRefusal, refusal, effect, call, calls, Made}
+use Rattle.rule.specs.Calls.{moved, drained, opened, lastTime, mostAmount, Call, request, advance, drain}
+use Rattle.rule.specs.Calls.{advanceRefusal, requestRefusal, refusal, effect, call, calls, Made}
 use Rattle.laws.specs.Sound.{Sound}
 use Rattle.laws.specs.Drains.{Drains, lastClock}
 use Rattle.laws.proofs.Ticks.{moved-clock, drained-clock}

@@ -16,11 +16,13 @@ use Rattle.lists.proofs.Zeros.{zeros-true, zeros-false}
 use Rattle.rule.specs.Refusal.{Refusal, first}
 use Rattle.rule.specs.Setups.{isPriority, isRoundRobin, sliceFits, bytesFit, setupRefusal}
 use Rattle.rule.specs.State.{State}
-use Rattle.rule.specs.Calls.{moved, Call, request, advance, drain, lastTime, mostAmount, advanceRefusal, requestRefusal, refusal}
+use Rattle.rule.specs.Calls.{moved, Call, request, advance, drain, lastTime, mostAmount, advanceRefusal}
+use Rattle.rule.specs.Calls.{requestRefusal, refusal}
 use Rattle.rule.specs.Table.{columnRefusal, tableRefusal}
 use Rattle.rule.specs.declared.Setup.{Setup}
 use Rattle.laws.specs.Accepted.{clearFrom}
-use Rattle.laws.specs.Reasons.{Reason, reason, Judged, PolicyUnknown, SliceUnfit, BytesUnfit, setupReasons, tableReasons, advanceReasons, requestReasons, reasons}
+use Rattle.laws.specs.Reasons.{Reason, reason, Judged, PolicyUnknown, SliceUnfit, BytesUnfit, setupReasons}
+use Rattle.laws.specs.Reasons.{tableReasons, advanceReasons, requestReasons, reasons}
 use Rattle.laws.proofs.Refusals.{isPriority-true, isPriority-false}
 
 -- ---- lists of reasons

@@ -1,5 +1,5 @@
--- The law of jumping: while one task is served, n ticks are one service of n ticks. In order: idle ticks; a service in
--- two parts; the turn; the jump; the jump of a sound state. Said once, over the policy. Assumes nothing.
+-- The law of jumping: while one task is served, n ticks are one service of n ticks. In order: idle ticks; a service
+-- in two parts; the turn; the jump; the jump of a sound state. Said once, over the policy. Assumes nothing.
 use Prim.Native.Nat.{ℕ, zero, suc, _+_, _-_, _≤_, _<_}
 use native.Mathlib.Omega.{arith}
 use native.Mathlib.Numerals.{one-add}

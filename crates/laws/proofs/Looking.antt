@@ -9,7 +9,8 @@ use borrow.Author.Tests.{le-ltb}
 use Rattle.lists.specs.Lists.{total}
 use Rattle.rule.specs.State.{State}
 use Rattle.rule.specs.Tick.{ticks}
-use Rattle.rule.specs.Calls.{moved, drained, opened, Call, request, advance, drain, advanceRefusal, requestRefusal, refusal, effect, call, Made}
+use Rattle.rule.specs.Calls.{moved, drained, opened, Call, request, advance, drain, advanceRefusal, requestRefusal}
+use Rattle.rule.specs.Calls.{refusal, effect, call, Made}
 use Rattle.laws.specs.Sound.{Sound}
 use Rattle.laws.specs.Sequences.{AllAccepted, reach}
 use Rattle.laws.specs.Looks.{Entry, said, added, bare, answers, heard, InTime, Addable}
@@ -127,8 +128,8 @@ hears (said c ∷ es) s r h a z w =
 hears (added v ∷ es) s r h a z w =
     hears es s (call r (advance v)) h (go-ahead s r v es h a (w .0) (w .1)) z (w .2)
 
--- All calls of a sequence are accepted, and advances are added that are accepted and in time: each call of the sequence
--- gives the same refusal and leaves the same state as without them.
+-- All calls of a sequence are accepted, and advances are added that are accepted and in time: each call of the
+-- sequence gives the same refusal and leaves the same state as without them.
 pub looking-costs-nothing : (s : State) → Made s → (es : List Entry) → AllAccepted s (bare es) → Addable s es
     → heard s es ≡ answers s (bare es)
 looking-costs-nothing s m es z w = hears es s s (made-sound s m) (inl refl) z w

@@ -1,5 +1,5 @@
--- Calls and setups keep the invariant, so every made state has it. In order: what is open, calls, setups, made states.
--- Assumes nothing.
+-- Calls and setups keep the invariant, so every made state has it. In order: what is open, calls, setups, made
+-- states. Assumes nothing.
 use Prim.Native.Nat.{ℕ, _+_, _≤_, _<_}
 use native.Mathlib.Omega.{arith}
 use mathlib.Core.Path.{_≡_, refl, sym, ap, _∙_, subst}
@@ -11,11 +11,13 @@ use lib.Dec.{eqb}
 use borrow.Author.Tests.{eqb-true}
 use Rattle.lists.specs.Lists.{at, total, same, times}
 use Rattle.lists.proofs.Testing.{tested, equal-or, cond-both}
-use Rattle.lists.proofs.Counting.{same-equal, same-other, times-nil, times-cons, times-head, times-append, times-none, length-once}
+use Rattle.lists.proofs.Counting.{same-equal, same-other, times-nil, times-cons, times-head, times-append, times-none}
+use Rattle.lists.proofs.Counting.{length-once}
 use Rattle.lists.proofs.Totals.{at-replicate, at-set-same, at-set-other, at-le-total, total-zero}
 use Rattle.rule.specs.Setups.{isPriority, setupRefusal}
 use Rattle.rule.specs.State.{State, fresh}
-use Rattle.rule.specs.Calls.{moved, opened, mostAmount, Call, request, advance, drain, refusal, effect, call, calls, Made}
+use Rattle.rule.specs.Calls.{moved, opened, mostAmount, Call, request, advance, drain, refusal, effect, call, calls}
+use Rattle.rule.specs.Calls.{Made}
 use Rattle.rule.specs.declared.Setup.{Setup}
 use Rattle.laws.specs.Sound.{Sliced, Sound}
 use Rattle.laws.specs.Accepted.{Taken, Requested}

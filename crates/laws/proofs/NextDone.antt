@@ -1,5 +1,5 @@
--- Which task is done next, by a jump: the one that the ticks of a jump finish, or the one that is done next after them.
--- Assumes nothing.
+-- Which task is done next, by a jump: the one that the ticks of a jump finish, or the one that is done next after
+-- them. Assumes nothing.
 use Prim.Native.Nat.{ℕ, zero, suc, _+_, _-_, _≤_, _<_}
 use native.Mathlib.Omega.{arith}
 use mathlib.Core.Path.{_≡_, sym, ap, _∙_, subst}

@@ -15,7 +15,8 @@ use Rattle.lists.proofs.Totals.{at-set-same}
 use Rattle.rule.specs.Setups.{setupRefusal}
 use Rattle.rule.specs.State.{State, fresh}
 use Rattle.rule.specs.Calls.{moved, drained, opened, Call, request, refusal, effect, call, calls}
-use Rattle.rule.specs.Table.{Outcome, refused, finished, completions, unlessRefused, outcomeFrom, rows, columnRefusal, tableRefusal, tableFrom, table, written}
+use Rattle.rule.specs.Table.{Outcome, refused, finished, completions, unlessRefused, outcomeFrom, rows, columnRefusal}
+use Rattle.rule.specs.Table.{tableRefusal, tableFrom, table, written}
 use Rattle.rule.specs.declared.Setup.{Setup}
 use Rattle.laws.specs.Sound.{Sound}
 use Rattle.laws.specs.Sequences.{AllAccepted}
@@ -203,8 +204,8 @@ row-open s t k m h z =
       at-set-same (moved s t .owed) k m (omega (arith, q .task, h .few, g .owed32)),
     )
 
--- Entry i is the first instant at which row i's request is no longer open, where all rows are accepted: from the state
--- just after the row, with the rows behind it to come.
+-- Entry i is the first instant at which row i's request is no longer open, where all rows are accepted: from the
+-- state just after the row, with the rows behind it to come.
 pub row-closes : (s : State) (ts ks ms : List ℕ) (i : ℕ) → Sound s → AllAccepted s (rows ts ks ms)
     → i < length (rows ts ks ms)
     → ClosesAt (calls s (take (suc i) (rows ts ks ms))) (at ks i) (drop (suc i) (rows ts ks ms))

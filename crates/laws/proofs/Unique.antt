@@ -4,7 +4,6 @@ use Prim.Native.Nat.{ℕ, _-_}
 use native.Mathlib.Omega.{arith}
 use mathlib.Core.Path.{_≡_, refl, sym, ap, ap₂, _∙_, subst}
 use mathlib.Core.Logic.{_↔_}
-use mathlib.Core.Bool.{cond}
 use mathlib.Core.List.{List, _∷_, _++_}
 use lib.Dec.{eqb}
 use lib.ListN.{take, length, replicate, length-take, take-append-drop}
@@ -32,7 +31,8 @@ pub by-value {ℓ} : {A : Type ℓ} (v : A) → Determined (λ (x : A). x ≡ v)
 by-value v x y p q = p ∙ sym q
 
 -- what is told of the outcome is, and g finds the outcome again
-pub by-inverse : {A B : Type 0} (f : A → B) (g : B → A) → ((x : A) → g (f x) ≡ x) → (b : B) → Determined (λ (x : A). f x ≡ b)
+pub by-inverse : {A B : Type 0} (f : A → B) (g : B → A) → ((x : A) → g (f x) ≡ x) → (b : B)
+    → Determined (λ (x : A). f x ≡ b)
 by-inverse f g h b x y p q = sym (h x) ∙ ap g (p ∙ sym q) ∙ h y
 
 -- a view of the outcome is, and the view is one to one on the outcomes that are good
@@ -156,8 +156,8 @@ started-fresh p s h =
     let e : setupRefusal p ≡ 0 = sym (h .answer) in
     (e, h .run .shown ∙ ap fresh (cond-true p plain (eq-eqb (setupRefusal p) 0 e)))
 
--- Demand 2: after a setup and any calls, the refusals are the rule's, and so is the state, of which every reading is a
--- function.
+-- Demand 2: after a setup and any calls, the refusals are the rule's, and so is the state, of which every reading is
+-- a function.
 pub demand2 : {s r : Run} {cs : List Call} {ns : List ℕ} (p : Setup) → Started p 0 s → Played s cs ns r
     → (view r ≡ calls (fresh p) cs) × (ns ≡ refusals (fresh p) cs)
 demand2 {s} {r} {cs} {ns} p h w =

@@ -11,10 +11,11 @@ use Rattle.rule.specs.State.{State}
 use Rattle.rule.specs.Calls.{moved, lastTime, mostAmount}
 use Rattle.rule.specs.declared.Setup.{Setup}
 
--- from this byte on, the priority bytes must be 0: "the bytes past the count", or "all 32 bytes"
+-- From this byte on the priority bytes must be 0: "the bytes past the count", or "all 32 bytes".
 abbrev pub clearFrom : Setup → ℕ
 clearFrom p = cond (isPriority p) (p .count) 0
 
+-- "Setup: 1 to 4 in that order.": none of them holds.
 pub record Taken (p : Setup) : Type 0 where
   pub policy : (p .policy ≡ 1) ⊎ (p .policy ≡ 2)
   pub some : 0 < p .count
@@ -24,10 +25,12 @@ pub record Taken (p : Setup) : Type 0 where
   pub bytes : length (p .priority) ≡ 32
   pub clear : (i : ℕ) → clearFrom p ≤ i → at (p .priority) i ≡ 0
 
+-- "Advance: 10, 11.": none of them holds.
 pub record Advanced (s : State) (t : ℕ) : Type 0 where
   pub time : t ≤ lastTime
   pub later : s .clock ≤ t
 
+-- "Request: 10, 11, 12, 13, 14.": none of them holds.
 pub record Requested (s : State) (t k a : ℕ) : Type 0 where
   pub time : t ≤ lastTime
   pub later : s .clock ≤ t

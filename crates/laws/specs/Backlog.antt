@@ -15,24 +15,35 @@ pub record Ask : Type 0 where
   pub task : ℕ
   pub amount : ℕ
 
--- ---- sums over requests, each of a number that a request has
+-- ---- sums over requests
+
+-- the numbers that a request has
+abbrev pub times : Ask → ℕ
+times q = q .time
+
+abbrev pub tasks : Ask → ℕ
+tasks q = q .task
 
 abbrev pub amounts : Ask → ℕ
 amounts q = q .amount
 
+-- of the numbers f, over those requests whose number `by` is n
+unfoldable pub sumBy : (Ask → ℕ) → (Ask → ℕ) → List Ask → ℕ → ℕ
+sumBy by f [] n = 0
+sumBy by f (q ∷ l) n = cond (eqb (by q) n) (f q) 0 + sumBy by f l n
+
 -- over those made at time t
-unfoldable pub sumAt : (Ask → ℕ) → List Ask → ℕ → ℕ
-sumAt f [] t = 0
-sumAt f (q ∷ l) t = cond (eqb (q .time) t) (f q) 0 + sumAt f l t
+abbrev pub sumAt : (Ask → ℕ) → List Ask → ℕ → ℕ
+sumAt f l t = sumBy times f l t
 
 -- over those of task k
-unfoldable pub sumOf : (Ask → ℕ) → List Ask → ℕ → ℕ
-sumOf f [] k = 0
-sumOf f (q ∷ l) k = cond (eqb (q .task) k) (f q) 0 + sumOf f l k
+abbrev pub sumOf : (Ask → ℕ) → List Ask → ℕ → ℕ
+sumOf f l k = sumBy tasks f l k
 
 -- ---- the backlog
 
--- with which the tick from t to t + 1 begins: what the tick before left of it, and the amounts added at t
+-- "it is built from the requests": that with which the tick from t to t + 1 begins is what the tick before left of
+-- it, and the amounts added at t
 unfoldable pub backlog : List Ask → ℕ → ℕ
 backlog l zero = sumAt amounts l zero
 backlog l (suc t) = backlog l t - 1 + sumAt amounts l (suc t)
@@ -56,6 +67,7 @@ accepted s (c ∷ cs) = cond (eqb (refusal s c) 0) (asks s c) [] ++ accepted (ca
 
 -- ---- what demand 3 says of a state whose accepted requests these are
 
+-- "Invented given or idle counts break demands 2 and 3. A constant backlog breaks 3".
 pub record Accounted (l : List Ask) (s : State) : Type 0 where
   pub owed : total (s .owed) ≡ backlog l (s .clock)
   pub idle : s .idle ≡ emptyTicks l (s .clock)

@@ -1,5 +1,5 @@
--- The state at each instant while calls are made and a drain follows: by it is said what a row's completion is. Assumes
--- nothing.
+-- The state at each instant while calls are made and a drain follows: by it is said what a row's completion is.
+-- Assumes nothing.
 use Prim.Native.Nat.{ℕ, _<_, _≤_}
 use mathlib.Core.Path.{_≡_}
 use mathlib.Core.Bool.{cond}
@@ -15,7 +15,8 @@ unfoldable pub during : State → List Call → ℕ → State
 during s [] u = moved s u
 during s (c ∷ cs) u = cond (leb u (reach s c)) (moved s u) (during (call s c) cs u)
 
--- Task k, open in s, is no longer open at t, and t is the first such instant; its latest completion is then t.
+-- Task k, open in s, is done at t: "It is then no longer open", and t is the first such instant. Its latest
+-- completion is then t.
 pub record ClosesAt (s : State) (k : ℕ) (cs : List Call) (t : ℕ) : Type 0 where
   pub later : s .clock < t
   pub before : (u : ℕ) → s .clock ≤ u → u < t → 0 < at (during s cs u .owed) k

@@ -1,4 +1,5 @@
--- Document 01, "The tick-by-tick rule", what the choice under priority means, a field for each clause. Assumes nothing.
+-- Document 01, "The tick-by-tick rule", what the choice under priority means, a field for each clause. Assumes
+-- nothing.
 use Prim.Native.Nat.{ℕ, _≤_, _<_}
 use mathlib.Core.Path.{_≡_}
 use mathlib.Core.List.{List}

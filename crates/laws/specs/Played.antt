@@ -15,8 +15,8 @@ pub data Played : Run → List Call → List ℕ → Run → Type 0 where
   then : {s q r : Run} {c : Call} {n : ℕ} {cs : List Call} {ns : List ℕ} → Promised s c n q → Played q cs ns r
       → Played s (c ∷ cs) (n ∷ ns) r
 
--- The number is that of the first listed reason that holds; a refused call leaves the very run, and an accepted one
--- has its effect.
+-- "Where several hold, only the first in these orders is given." "A refusal .. changes no run": a refused call leaves
+-- the very run, and an accepted one has its effect.
 pub record Judges (before : Run) (c : Call) (number : ℕ) (after : Run) : Type 0 where
   pub listed : (n : ℕ) → (number ≡ n) ↔ Judged (reasons (view before) c) n
   pub kept : (number ≡ 0 → ⊥) → after ≡ before

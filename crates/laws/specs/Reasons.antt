@@ -1,5 +1,5 @@
 -- Document 01, "Refusal numbers", as facts: for a setup, a table and each call the list of its refusals, in the order
--- in which they are judged, each number beside what it is "given exactly when". The rule's tests mean these
+-- in which they are judged, each number beside its "Given exactly when". The rule's tests mean these
 -- (`setup-judged`, `table-judged`, `refusal-judged`). Assumes nothing.
 use Prim.Native.Nat.{ℕ, _≤_, _<_}
 use mathlib.Core.Path.{_≡_}

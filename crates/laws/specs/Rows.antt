@@ -11,7 +11,7 @@ use Rattle.rule.specs.Table.{Outcome, refused, finished, completions}
 use Rattle.rule.specs.declared.Setup.{Setup}
 use Rattle.laws.specs.Sequences.{AllAccepted}
 
--- none of 1 to 4, 20, 21 and 22 is given: the columns' lengths and that of the result column
+-- "Table: 1 to 4, then 20, 21, 22": none of them holds, by the columns' lengths and that of the result column.
 pub record Tabled (p : Setup) (times tasks amounts room : ℕ) : Type 0 where
   pub setup : setupRefusal p ≡ 0
   pub tasks-equal : tasks ≡ times
@@ -19,7 +19,7 @@ pub record Tabled (p : Setup) (times tasks amounts room : ℕ) : Type 0 where
   pub few : times ≤ 1_024
   pub fits : times ≤ room
 
--- the call at place i, from 0, is refused with n, and all before it are accepted
+-- "the first such row": the call at place i, from 0, is refused with n, and all before it are accepted.
 pub record FirstRefused (s : State) (cs : List Call) (n i : ℕ) : Type 0 where
   pub before : List Call
   pub culprit : Call
