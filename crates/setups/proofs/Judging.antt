@@ -1,4 +1,5 @@
--- Laws of a judged setup: an accepted one is what was asked for, and one outcome satisfies the promise. Assumes nothing.
+-- Laws of a judged setup: an accepted one is what was asked for, and one outcome satisfies the promise. Assumes
+-- nothing.
 use mathlib.Core.Path.{_≡_, sym, _∙_}
 use borrow.Author.Tests.{eq-eqb}
 use Rattle.lists.proofs.Testing.{cond-true}
@@ -12,10 +13,5 @@ pub judged-accepted : {p : Setup} {r : JudgedSetup} → Judges p r → setupRefu
 judged-accepted {p} h z = h .given ∙ cond-true p plain (eq-eqb (setupRefusal p) 0 z)
 
 pub judged-determined : (p : Setup) → Determined (Judges p)
-judged-determined p x y a b = λ i. record { refusal = numbers i; setup = setups i }
-  where
-    numbers : x .refusal ≡ y .refusal
-    numbers = a .number ∙ sym (b .number)
-
-    setups : x .setup ≡ y .setup
-    setups = a .given ∙ sym (b .given)
+judged-determined p x y a b =
+    λ i. record { refusal = (a .number ∙ sym (b .number)) i; setup = (a .given ∙ sym (b .given)) i }

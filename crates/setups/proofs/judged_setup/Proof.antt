@@ -18,9 +18,6 @@ wanted c = asked (c .args .policy) (c .args .count) (c .args .slice) (now (c .ar
 accepted : (c : tie.Else1) → setupRefusal (wanted (c .before .before .before)) ≡ 0
 accepted c = sym (c .before .setup-refusal .ensures) ∙ c .if1 .left
 
-setup-refusal-requires : tie.Need-setup-refusal-requires
-setup-refusal-requires c κs = search needs
-
 returns : tie.Need-returns
 returns c =
     let e = c .before .setup-refusal .ensures in
@@ -41,4 +38,4 @@ returns-2 c =
 
 pub judged-setup-spec : {M : Type 1} → statement M
 judged-setup-spec =
-    tie.close (tie.spec setup-refusal-requires returns setup-of-requires returns-2)
+    tie.close (tie.spec (λ c κs. search needs) returns setup-of-requires returns-2)

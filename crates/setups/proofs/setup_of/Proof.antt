@@ -7,13 +7,10 @@ use Rattle.rule.specs.Setups.{asked}
 use Rattle.setups.proofs.setup_of.Statement.{statement}
 use Rattle.setups.proofs.setup_of.Tie as tie
 
-array-of-requires : tie.Need-array-of-requires
-array-of-requires c κs = search needs
-
 returns : tie.Need-returns
 returns c =
     let a = c .before .before .args in
     ap (λ (l : List ℕ). asked (a .policy) (a .count) (a .slice) l) (c .array-of .ensures)
 
 pub setup-of-spec : {M : Type 1} → statement M
-setup-of-spec = tie.close (tie.spec array-of-requires returns)
+setup-of-spec = tie.close (tie.spec (λ c κs. search needs) returns)

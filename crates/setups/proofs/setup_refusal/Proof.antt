@@ -1,15 +1,13 @@
--- `setups::setup_refusal` meets its contract: each return is the next refusal of the list, those before it having passed.
--- Assumes nothing.
+-- `setups::setup_refusal` meets its contract: each return is the next refusal of the list, those before it having
+-- passed. Assumes nothing.
 use mathlib.Core.Path.{_≡_}
 use mathlib.Core.Bool.{not, false, _||_}
-use native.Mathlib.Omega.{arith}
 use borrow.Author.Needs.{needs}
 use borrow.Author.Tests.{not-false}
-use denote.Ref.{now}
 use lib.Dec.{eqb}
 use Rattle.lists.specs.Lists.{within}
 use Rattle.lists.proofs.Testing.{within-true}
-use Rattle.rule.specs.Setups.{sliceFits, bytesFit, setupRefusal}
+use Rattle.rule.specs.Setups.{sliceFits, setupRefusal}
 use Rattle.setups.proofs.setup_refusal.Statement.{statement}
 use Rattle.setups.proofs.setup_refusal.Tie as tie
 
@@ -37,22 +35,13 @@ slice-passed : (c : tie.Else3)
     → not (sliceFits (start (past1 (past2 c)) .args .policy) (start (past1 (past2 c)) .args .slice)) ≡ false
 slice-passed c = simp (← c .before .slice-fits .ensures, c .if3 .left)
 
-is-policy-requires : tie.Need-is-policy-requires
-is-policy-requires c κs = search needs
-
 returns : tie.Need-returns
 unfolding setupRefusal
 returns c = simp (← c .before .is-policy .ensures, c .if1 .taken)
 
-is-within-requires : tie.Need-is-within-requires
-is-within-requires c κs = search needs
-
 returns-2 : tie.Need-returns-2
 unfolding setupRefusal
 returns-2 c = simp (policy-passed (c .before .before), ← c .before .is-within .ensures, c .if2 .taken)
-
-slice-fits-requires : tie.Need-slice-fits-requires
-slice-fits-requires c κs = search needs
 
 returns-3 : tie.Need-returns-3
 unfolding setupRefusal
@@ -93,11 +82,11 @@ pub setup-refusal-spec : {M : Type 1} → statement M
 setup-refusal-spec =
     tie.close
     (tie.spec
-    is-policy-requires
+    (λ c κs. search needs)
     returns
-    is-within-requires
+    (λ c κs. search needs)
     returns-2
-    slice-fits-requires
+    (λ c κs. search needs)
     returns-3
     bytes-fit-requires
     returns-4

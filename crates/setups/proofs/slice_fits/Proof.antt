@@ -7,14 +7,11 @@ use Rattle.setups.proofs.slice_fits.Tie as tie
 
 returns : tie.Need-returns
 unfolding sliceFits
-returns c = simp (eq-eqb (c .before .args .policy) 1 (c .if1 .taken))
-
-is-within-requires : tie.Need-is-within-requires
-is-within-requires c κs = search needs
+returns c = simp (eq-eqb _ 1 (c .if1 .taken))
 
 returns-2 : tie.Need-returns-2
 unfolding sliceFits
-returns-2 c = simp (ne-eqb (c .before .before .args .policy) 1 (c .before .if1 .left), c .is-within .ensures)
+returns-2 c = simp (ne-eqb _ 1 (c .before .if1 .left), c .is-within .ensures)
 
 pub slice-fits-spec : {M : Type 1} → statement M
-slice-fits-spec = tie.close (tie.spec returns is-within-requires returns-2)
+slice-fits-spec = tie.close (tie.spec returns (λ c κs. search needs) returns-2)

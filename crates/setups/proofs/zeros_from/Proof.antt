@@ -1,5 +1,5 @@
--- `setups::zeros_from` meets its contract. The invariant: whether the bytes from `from` on are 0 is whether those from i on
--- are. Assumes nothing.
+-- `setups::zeros_from` meets its contract. The invariant: whether the bytes from `from` on are 0 is whether those
+-- from i on are. Assumes nothing.
 use Prim.Native.Nat.{_≤_, _-_}
 use mathlib.Core.Path.{_≡_, refl, sym, _∙_}
 use native.Mathlib.Omega.{arith}
@@ -23,7 +23,8 @@ shared-slice-read-if1 c = omega arith
 
 returns : tie.Need-returns Inv-loop μ-loop
 returns c =
-    sym (zeros-other _ _ (c .before .before .loop-test .taken) (c .if1 .taken)) ∙ c .before .before .before .loop .inv .1
+    let p = c .before .before in
+    sym (zeros-other _ _ (p .loop-test .taken) (c .if1 .taken)) ∙ p .before .loop .inv .1
 
 add-i : tie.Need-add-i Inv-loop μ-loop
 add-i c = omega arith
@@ -32,10 +33,9 @@ loop-less : tie.Need-loop-less Inv-loop μ-loop
 loop-less c = omega arith
 
 loop-again : tie.Need-loop-again Inv-loop μ-loop
-loop-again c = (
-  omega arith,
-  sym (zeros-same _ _ (c .before .before .loop-test .taken) (c .if1 .left)) ∙ c .before .before .before .loop .inv .1,
-)
+loop-again c =
+    let p = c .before .before in
+    (omega arith, sym (zeros-same _ _ (p .loop-test .taken) (c .if1 .left)) ∙ p .before .loop .inv .1)
 
 returns-2 : tie.Need-returns-2 Inv-loop μ-loop
 returns-2 c = sym (zeros-past _ _ (c .loop-test .left)) ∙ c .before .loop .inv .1
