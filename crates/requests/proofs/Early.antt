@@ -1,5 +1,5 @@
--- The refusals of a request that are judged before the clock moves, beside the one after it: which numbers they are, and
--- what they show. Assumes nothing.
+-- The refusals of a request that are judged before the clock moves, beside the one after it: which numbers they are,
+-- and what they show. Assumes nothing.
 use Prim.Native.Nat.{ℕ, _≤_, _<_}
 use native.Mathlib.Omega.{arith}
 use mathlib.Core.Path.{_≡_, refl, _∙_}
@@ -40,11 +40,6 @@ two-first true b n h = refl
 two-first false true n h = refl
 two-first false false n h = absurd (h refl)
 
-two-between : (a b : Bool) → (two a b 0 ≡ 0 → ⊥) → (10 ≤ two a b 0) × (two a b 0 ≤ 13)
-two-between true b h = (omega arith, omega arith)
-two-between false true h = (omega arith, omega arith)
-two-between false false h = absurd (h refl)
-
 pub time-first : (count clock t k a : ℕ) → (timeRefusal clock t ≡ 0 → ⊥)
     → timeRefusal clock t ≡ earlyRefusal count clock t k a
 unfolding timeRefusal earlyRefusal
@@ -53,7 +48,7 @@ time-first count clock t k a = two-first (ltb lastTime t) (ltb t clock) _
 pub time-between : (clock t : ℕ) → (timeRefusal clock t ≡ 0 → ⊥)
     → (10 ≤ timeRefusal clock t) × (timeRefusal clock t ≤ 13)
 unfolding timeRefusal
-time-between clock t = two-between (ltb lastTime t) (ltb t clock)
+time-between clock t = four-between (ltb lastTime t) (ltb t clock) false false
 
 pub time-passed : (clock t : ℕ) → timeRefusal clock t ≡ 0 → (t ≤ lastTime) × (clock ≤ t)
 unfolding timeRefusal

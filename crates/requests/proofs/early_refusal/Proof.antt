@@ -1,4 +1,5 @@
--- Each return is a row of the list: the rows before it do not hold, and it does. Assumes nothing.
+-- `requests::early_refusal` meets its contract: each return is the next refusal of the list, those before it having
+-- passed. Assumes nothing.
 use Prim.Native.Nat.{_≤_}
 use mathlib.Core.Path.{_≡_, sym, _∙_}
 use mathlib.Core.Bool.{false}
@@ -10,16 +11,13 @@ use Rattle.requests.proofs.Early.{time-first, time-passed}
 use Rattle.requests.proofs.early_refusal.Statement.{statement}
 use Rattle.requests.proofs.early_refusal.Tie as tie
 
--- the rows that a place has passed
+-- the refusals that a place has passed
 passed : (c : tie.Else1)
     → let a = c .before .before .args in (a .time ≤ 4_000_000_000) × (a .clock ≤ a .time)
 passed c = time-passed _ _ (sym (c .before .time-refusal .ensures) ∙ c .if1 .left)
 
 task-passed : (c : tie.Else2) → let a = c .before .before .before .args in leb (a .count) (a .task) ≡ false
 task-passed c = lt-leb _ _ (c .if2 .left)
-
-time-refusal-requires : tie.Need-time-refusal-requires
-time-refusal-requires c κs = tt
 
 returns : tie.Need-returns
 returns c =
@@ -59,4 +57,4 @@ returns-5 c =
 
 pub early-refusal-spec : {M : Type 1} → statement M
 early-refusal-spec =
-    tie.close (tie.spec time-refusal-requires returns returns-2 returns-3 returns-4 returns-5)
+    tie.close (tie.spec (λ c κs. tt) returns returns-2 returns-3 returns-4 returns-5)

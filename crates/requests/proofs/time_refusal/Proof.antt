@@ -1,4 +1,5 @@
--- Each return is a row of the list: the rows before it do not hold, and it does.
+-- `requests::time_refusal` meets its contract: each return is the next refusal of the list, those before it having
+-- passed. Assumes nothing.
 use borrow.Author.Tests.{lt-ltb, le-ltb}
 use Rattle.requests.specs.Early.{timeRefusal}
 use Rattle.requests.proofs.time_refusal.Statement.{statement}
