@@ -1,5 +1,5 @@
--- What the readings know of a made run: it counts at most 32 tasks, and taken apart its clock has room for what it owes.
--- Assumes nothing.
+-- What the readings know of a made run: it counts at most 32 tasks, and taken apart its clock has room for what it
+-- owes. Assumes nothing.
 use Prim.Native.Nat.{_+_, _≤_}
 use native.Mathlib.Omega.{arith}
 use Rattle.lists.specs.Lists.{total}

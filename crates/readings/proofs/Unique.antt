@@ -1,5 +1,5 @@
--- No two different outcomes satisfy the promise of a reading: each definition that tells an answer has one answer for what it
--- tells. Assumes nothing.
+-- No two different outcomes satisfy the promise of a reading: each definition that tells an answer has one answer for
+-- what it tells. Assumes nothing.
 use mathlib.Core.Path.{_≡_, refl}
 use Rattle.rule.specs.Readings.{Reading, value, never, refused, Soonest, nothing, done}
 use Rattle.rule.specs.View.{Determined}

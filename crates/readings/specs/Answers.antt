@@ -1,5 +1,5 @@
--- What each case of a reading's answer tells: "a definition gives this paper's number and values for each of its cases".
--- Assumes nothing.
+-- What each case of a reading's answer tells: "a definition gives this paper's number and values for each of its
+-- cases". Assumes nothing.
 use Rattle.rule.specs.Readings.{Reading, value, never, refused, Soonest, nothing, done}
 use Rattle.readings.specs.declared.TaskTicks.{TaskTicks}
 use Rattle.readings.specs.declared.TaskTicks.the-variants as ticks

@@ -9,14 +9,8 @@ use Rattle.readings.proofs.completed.Tie as tie
 returns : tie.Need-returns
 returns c = simp (le-leb _ _ (c .if1 .taken))
 
-mul-completion-at : tie.Need-mul-completion-at
-mul-completion-at c = search needs
-
 array-read-completion-at : tie.Need-array-read-completion-at
 array-read-completion-at c = omega (arith, made-few _ (c .before .before .before .before .pre))
-
-completion-at-requires : tie.Need-completion-at-requires
-completion-at-requires c κs = search needs
 
 returns-2 : tie.Need-returns-2
 returns-2 c = simp (lt-leb _ _ (c .before .if1 .left)) (c .completion-at .ensures)
@@ -24,4 +18,4 @@ returns-2 c = simp (lt-leb _ _ (c .before .if1 .left)) (c .completion-at .ensure
 pub completed-spec : {M : Type 1} → statement M
 completed-spec =
     tie.close
-    (tie.spec returns mul-completion-at array-read-completion-at completion-at-requires returns-2)
+    (tie.spec returns (λ c. search needs) array-read-completion-at (λ c κs. search needs) returns-2)

@@ -7,14 +7,8 @@ use Rattle.readings.proofs.entry_of.Tie as tie
 returns : tie.Need-returns
 returns c = simp (le-leb _ _ (c .if1 .taken))
 
-mul-t7 : tie.Need-mul-t7
-mul-t7 c = search needs
-
-array-read-t10 : tie.Need-array-read-t10
-array-read-t10 c = search needs
-
 returns-2 : tie.Need-returns-2
 returns-2 c = simp (lt-leb _ _ (c .if1 .left))
 
 pub entry-of-spec : {M : Type 1} → statement M
-entry-of-spec = tie.close (tie.spec returns mul-t7 array-read-t10 returns-2)
+entry-of-spec = tie.close (tie.spec returns (λ c. search needs) (λ c. search needs) returns-2)

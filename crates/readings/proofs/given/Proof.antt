@@ -7,8 +7,5 @@ use Rattle.readings.proofs.given.Tie as tie
 entry-of-requires : tie.Need-entry-of-requires
 entry-of-requires c κs = made-few _ (c .before .before .pre)
 
-returns : tie.Need-returns
-returns c = search needs
-
 pub given-spec : {M : Type 1} → statement M
-given-spec = tie.close (tie.spec entry-of-requires returns)
+given-spec = tie.close (tie.spec entry-of-requires (λ c. search needs))

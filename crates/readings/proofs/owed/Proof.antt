@@ -7,8 +7,5 @@ use Rattle.readings.proofs.owed.Tie as tie
 entry-of-requires : tie.Need-entry-of-requires
 entry-of-requires c κs = made-few _ (c .before .before .pre)
 
-returns : tie.Need-returns
-returns c = search needs
-
 pub owed-spec : {M : Type 1} → statement M
-owed-spec = tie.close (tie.spec entry-of-requires returns)
+owed-spec = tie.close (tie.spec entry-of-requires (λ c. search needs))

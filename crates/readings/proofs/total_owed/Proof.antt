@@ -11,8 +11,5 @@ total-of-requires c κs =
     let m = c .before .before .pre .made in
     (made-sound _ m .owed32, omega (arith, made-within _ m))
 
-returns : tie.Need-returns
-returns c = search needs
-
 pub total-owed-spec : {M : Type 1} → statement M
-total-owed-spec = tie.close (tie.spec total-of-requires returns)
+total-owed-spec = tie.close (tie.spec total-of-requires (λ c. search needs))
