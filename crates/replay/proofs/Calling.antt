@@ -1,5 +1,5 @@
--- Laws of the calls by value: a promise from what a state shows; the numbers and effects of advances and drains. Assumes
--- nothing.
+-- Laws of the calls by value: a promise from what a state shows; the numbers and effects of advances and drains.
+-- Assumes nothing.
 use Prim.Native.Nat.{ℕ, _+_, _-_}
 use native.Mathlib.Omega.{arith}
 use mathlib.Core.Path.{_≡_, refl, sym, _∙_}

@@ -1,5 +1,6 @@
--- Laws of a request by value. In order: a task that joins a run; the request's refusals; what it leaves. Assumes nothing.
-use Prim.Native.Nat.{ℕ, _+_, _-_, _<_}
+-- Laws of a request by value. In order: a task that joins a run; the request's refusals; what it leaves. Assumes
+-- nothing.
+use Prim.Native.Nat.{ℕ, _+_, _<_}
 use native.Mathlib.Omega.{arith}
 use native.Mathlib.Numerals.{add-one}
 use mathlib.Core.Path.{_≡_, sym, ap, _∙_}
@@ -90,7 +91,8 @@ module _ (s : State) (t k a : ℕ) (e : earlyRefusal (s .setup .count) (s .clock
   unfolding opened
   taken-room S z =
       let q = take (r .queued) (r .queue) in
-      let l : length q ≡ r .queued = length-take-le (r .queued) (r .queue) (omega (arith, R .tidy .fits, R .tidy .whole)) in
+      let f = R .tidy in
+      let l : length q ≡ r .queued = length-take-le (r .queued) (r .queue) (omega (arith, f .fits, f .whole)) in
       let m : length q ≡ length (moved s t .queue) = ap (λ (x : State). length (x .queue)) (R .shown) in
       let n = refusal-none s t k a e (sym owed-moved ∙ z) in
       omega (

@@ -1,5 +1,5 @@
--- No two different outcomes satisfy the promise of a public function here. In order: each definition that tells an answer has
--- one answer for what it tells; setups and calls. Assumes nothing.
+-- No two different outcomes satisfy the promise of a public function here. In order: each definition that tells an
+-- answer has one answer for what it tells; setups and calls. Assumes nothing.
 use Prim.Native.Nat.{ℕ}
 use mathlib.Core.Path.{_≡_, refl}
 use mathlib.Core.Bool.{cond}
@@ -58,20 +58,16 @@ call-number-unique = by-inverse callNumber callAnswer again
 -- ---- setups and calls
 
 pub setup-determined : (p : Setup) → Determined (λ (r : Start). Started p (setupNumber (r .answer)) (r .run))
-setup-determined p x y a b = λ i. record { answer = answers i; run = runs i }
-  where
-    answers : x .answer ≡ y .answer
-    answers = setup-number-unique _ (x .answer) (y .answer) (a .answer) (b .answer)
-
-    runs : x .run ≡ y .run
-    runs = shows-determined _ (x .run) (y .run) (a .run) (b .run)
+setup-determined p x y a b =
+    λ i. record {
+      answer = setup-number-unique _ (x .answer) (y .answer) (a .answer) (b .answer) i;
+      run = shows-determined _ (x .run) (y .run) (a .run) (b .run) i;
+    }
 
 pub call-determined : (run : Run) (c : Call)
     → Determined (λ (r : Moved). Promised run c (callNumber (r .answer)) (r .run))
-call-determined run c x y a b = λ i. record { answer = answers i; run = runs i }
-  where
-    answers : x .answer ≡ y .answer
-    answers = call-number-unique _ (x .answer) (y .answer) (a .answer) (b .answer)
-
-    runs : x .run ≡ y .run
-    runs = shows-determined _ (x .run) (y .run) (a .run) (b .run)
+call-determined run c x y a b =
+    λ i. record {
+      answer = call-number-unique _ (x .answer) (y .answer) (a .answer) (b .answer) i;
+      run = shows-determined _ (x .run) (y .run) (a .run) (b .run) i;
+    }

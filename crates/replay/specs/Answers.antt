@@ -1,5 +1,5 @@
--- What each case of an answer tells: "a definition gives this paper's number and values for each of its cases". Assumes
--- nothing.
+-- What each case of an answer tells: "a definition gives this paper's number and values for each of its cases".
+-- Assumes nothing.
 use Prim.Native.Nat.{ℕ}
 use Rattle.replay.specs.declared.start.SetupAnswer.{SetupAnswer}
 use Rattle.replay.specs.declared.start.SetupAnswer.the-variants as setup

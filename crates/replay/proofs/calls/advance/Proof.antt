@@ -1,4 +1,5 @@
--- `replay::calls::advance` meets its contract: refused by 10 or 11 with the run that was given, or moved. Assumes nothing.
+-- `replay::calls::advance` meets its contract: refused by 10 or 11 with the run that was given, or moved. Assumes
+-- nothing.
 use native.Mathlib.Omega.{arith}
 use mathlib.Core.Path.{_≡_, refl, sym, _∙_}
 use Rattle.rule.specs.Calls.{Call, advance}
@@ -6,7 +7,8 @@ use Rattle.rule.specs.View.{view}
 use Rattle.laws.proofs.Made.{made-sound}
 use Rattle.requests.specs.Early.{timeRefusal}
 use Rattle.requests.proofs.Early.{time-between, time-passed}
-use Rattle.replay.proofs.Calling.{shows-then, promised-refused, promised-accepted, advance-refusal, advance-effect}
+use Rattle.replay.proofs.Calling.{shows-then, promised-refused, promised-accepted, advance-refusal}
+use Rattle.replay.proofs.Calling.{advance-effect}
 use Rattle.replay.proofs.calls.advance.Statement.{statement}
 use Rattle.replay.proofs.calls.advance.Tie as tie
 
@@ -16,9 +18,6 @@ asking c = advance (c .args .time)
 -- the place past the refusals
 fits : (c : tie.Else1) → let a = c .before .before .args in timeRefusal (a .run .clock) (a .time) ≡ 0
 fits c = sym (c .before .time-refusal .ensures) ∙ c .if1 .left
-
-time-refusal-requires : tie.Need-time-refusal-requires
-time-refusal-requires c κs = tt
 
 answer-of-requires : tie.Need-answer-of-requires
 answer-of-requires c κs =
@@ -47,4 +46,4 @@ returns-2 c =
     (shows-then (c .moved-to .ensures) (advance-effect _ _))
 
 pub advance-spec : {M : Type 1} → statement M
-advance-spec = tie.close (tie.spec time-refusal-requires answer-of-requires returns moved-to-requires returns-2)
+advance-spec = tie.close (tie.spec (λ c κs. tt) answer-of-requires returns moved-to-requires returns-2)

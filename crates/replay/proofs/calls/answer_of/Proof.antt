@@ -13,19 +13,10 @@ only-13 n h g n10 n11 n12 =
     let h12 : 12 ≤ n = lt-of-le-ne h11 (λ e. n11 (sym e)) in
     le-antisymm (lt-of-le-ne h12 (λ e. n12 (sym e))) g
 
-returns : tie.Need-returns
-returns c = search needs
-
-returns-2 : tie.Need-returns-2
-returns-2 c = search needs
-
-returns-3 : tie.Need-returns-3
-returns-3 c = search needs
-
 returns-4 : tie.Need-returns-4
 returns-4 c =
     let p = c .before .before .before .pre in
     only-13 _ (p .0) (p .1) (c .before .before .if1 .left) (c .before .if2 .left) (c .if3 .left)
 
 pub answer-of-spec : {M : Type 1} → statement M
-answer-of-spec = tie.close (tie.spec returns returns-2 returns-3 returns-4)
+answer-of-spec = tie.close (tie.spec (λ c. search needs) (λ c. search needs) (λ c. search needs) returns-4)

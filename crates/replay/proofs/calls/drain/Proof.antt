@@ -1,4 +1,5 @@
--- `replay::calls::drain` meets its contract: a move by the ticks owed, which a made run has room for. Assumes nothing.
+-- `replay::calls::drain` meets its contract: a move by the ticks owed, which a made run has room for. Assumes
+-- nothing.
 use Prim.Native.Nat.{ℕ, _+_}
 use native.Mathlib.Omega.{arith}
 use mathlib.Core.Path.{refl, ap, _∙_}
@@ -25,14 +26,16 @@ add-moved-to c = omega (arith, c .before .total-of .ensures, made-within _ (star
 moved-to-requires : tie.Need-moved-to-requires
 moved-to-requires c κs =
     let m = start (c .before) .pre in
-    (m .tidy, (made-sound _ (m .made), (omega arith, omega (arith, c .before .total-of .ensures, made-within _ (m .made)))))
+    let w = made-within _ (m .made) in
+    (m .tidy, (made-sound _ (m .made), (omega arith, omega (arith, c .before .total-of .ensures, w))))
 
 returns : tie.Need-returns
 returns c =
-    let run = start (c .before .before) .args .run in
+    let summed = c .before .before in
+    let run = start summed .args .run in
     promised-accepted run drain _ 0 _ refl (drain-refusal (view run)) refl
     (shows-then (c .moved-to .ensures)
-    (ap (λ (n : ℕ). moved (view run) (run .clock + n)) (c .before .before .total-of .ensures) ∙ drain-effect (view run)))
+    (ap (λ (n : ℕ). moved (view run) (run .clock + n)) (summed .total-of .ensures) ∙ drain-effect (view run)))
 
 pub drain-spec : {M : Type 1} → statement M
 drain-spec = tie.close (tie.spec total-of-requires add-moved-to moved-to-requires returns)

@@ -13,24 +13,20 @@ use Rattle.replay.proofs.calls.moved_to.Tie as tie
 abbrev start : tie.After-cursor-of → tie.Start
 start c = c .before .before .before .before .before .before
 
-cursor-of-requires : tie.Need-cursor-of-requires
-cursor-of-requires c κs = search needs
-
 walk-requires : tie.Need-walk-requires
 walk-requires c κs =
     let apart = c .before .before .before .before in
     let a = apart .cursor-of .ensures in
-    (a .kept, (apart-sound _ _ (start apart .pre .1 .0) a, (omega (arith, apart-clock _ _ a), start apart .pre .1 .1 .1)))
-
-run-of-requires : tie.Need-run-of-requires
-run-of-requires c κs = search needs
+    let p = start apart .pre .1 in
+    (a .kept, (apart-sound _ _ (p .0) a, (omega (arith, apart-clock _ _ a), p .1 .1)))
 
 returns : tie.Need-returns
 returns c =
     let walked = c .before .before .before .before .before in
     let apart = walked .before .before .before .before .before in
+    let t = start apart .args .time in
     shows-then (c .run-of .ensures)
-    (walked .walk .ensures .shown ∙ ap (λ (s : State). moved s (start apart .args .time)) (apart .cursor-of .ensures .shown))
+    (walked .walk .ensures .shown ∙ ap (λ (s : State). moved s t) (apart .cursor-of .ensures .shown))
 
 pub moved-to-spec : {M : Type 1} → statement M
-moved-to-spec = tie.close (tie.spec cursor-of-requires walk-requires run-of-requires returns)
+moved-to-spec = tie.close (tie.spec (λ c κs. search needs) walk-requires (λ c κs. search needs) returns)

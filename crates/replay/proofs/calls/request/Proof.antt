@@ -1,5 +1,5 @@
--- `replay::calls::request` meets its contract: refused by 10 to 13 with the run that was given, or moved; then refused by 14 with
--- the run that was given, or opened (Opening). Assumes nothing.
+-- `replay::calls::request` meets its contract: refused by 10 to 13 with the run that was given, or moved; then
+-- refused by 14 with the run that was given, or opened (Opening). Assumes nothing.
 use Prim.Native.Nat.{_<_}
 use native.Mathlib.Omega.{arith}
 use mathlib.Core.Path.{_≡_, refl, sym, _∙_}
@@ -32,9 +32,6 @@ passed c = early-passed _ _ _ _ _ (early c)
 known : (c : tie.Else1) → start c .args .task < 32
 known c = omega (arith, passed c .task, made-sound _ (start c .pre .made) .few)
 
-early-refusal-requires : tie.Need-early-refusal-requires
-early-refusal-requires c κs = search needs
-
 answer-of-requires : tie.Need-answer-of-requires
 answer-of-requires c κs =
     let s = c .before .before in
@@ -57,9 +54,6 @@ moved-to-requires c κs =
     let s = start c in
     (s .pre .tidy, (made-sound _ (s .pre .made), (passed c .later, omega (arith, passed c .time))))
 
-mul-o : tie.Need-mul-o
-mul-o c = search needs
-
 element-copy-out-o : tie.Need-element-copy-out-o
 element-copy-out-o c = known (c .before)
 
@@ -78,33 +72,31 @@ cast-opened-by c = omega (arith, known (c .before .before .before))
 opened-by-requires : tie.Need-opened-by-requires
 opened-by-requires c κs =
     let m = c .before .before in
-    let s = start (m .before) in (
-      m .moved-to .ensures .tidy,
-      (
-        taken-room (view (s .args .run)) _ _ _ (early (m .before)) _ (m .moved-to .ensures) (made-sound _ (s .pre .made))
-            (omega (arith, c .if2 .left)),
-        known (m .before),
-      ),
-    )
+    let s = start (m .before) in
+    let r = m .moved-to .ensures in
+    let room = taken-room (view (s .args .run)) _ _ _ (early (m .before)) _ r (made-sound _ (s .pre .made)) in
+    (r .tidy, (room (omega (arith, c .if2 .left)), known (m .before)))
 
 returns-3 : tie.Need-returns-3
 returns-3 c =
     let m = c .before .before .before in
     let s = start (m .before) in
+    let v = view (s .args .run) in
+    let e = early (m .before) in
+    let r = m .moved-to .ensures in
     promised-accepted _ (asking s) _ 0 _ refl
-    (taken-number (view (s .args .run)) _ _ _ (early (m .before)) _ (m .moved-to .ensures) (omega (arith, c .before .if2 .left)))
-    refl
-    (taken-shows (view (s .args .run)) _ _ _ (early (m .before)) _ (m .moved-to .ensures) _ (c .opened-by .ensures))
+    (taken-number v _ _ _ e _ r (omega (arith, c .before .if2 .left))) refl
+    (taken-shows v _ _ _ e _ r _ (c .opened-by .ensures))
 
 pub request-spec : {M : Type 1} → statement M
 request-spec =
     tie.close
     (tie.spec
-    early-refusal-requires
+    (λ c κs. search needs)
     answer-of-requires
     returns
     moved-to-requires
-    mul-o
+    (λ c. search needs)
     element-copy-out-o
     returns-2
     cast-opened-by

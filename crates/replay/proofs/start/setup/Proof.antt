@@ -9,14 +9,8 @@ use Rattle.replay.proofs.Starting.{setup-small}
 use Rattle.replay.proofs.start.setup.Statement.{statement}
 use Rattle.replay.proofs.start.setup.Tie as tie
 
-judged-setup-requires : tie.Need-judged-setup-requires
-judged-setup-requires c κs = search needs
-
 answer-of-requires : tie.Need-answer-of-requires
 answer-of-requires c κs = subst (λ (n : ℕ). n ≤ 4) (sym (c .judged-setup .ensures .number)) (setup-small _)
-
-fresh-run-requires : tie.Need-fresh-run-requires
-fresh-run-requires c κs = search needs
 
 returns : tie.Need-returns
 returns c =
@@ -27,4 +21,4 @@ returns c =
     }
 
 pub setup-spec : {M : Type 1} → statement M
-setup-spec = tie.close (tie.spec judged-setup-requires answer-of-requires fresh-run-requires returns)
+setup-spec = tie.close (tie.spec (λ c κs. search needs) answer-of-requires (λ c κs. search needs) returns)
