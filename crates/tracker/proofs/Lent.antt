@@ -1,5 +1,5 @@
--- The laws of walks at the run. In order: the answers as plain data; what calls by value return; `reads`, a reading of
--- a run that is lent, over the reading by value; `moves`, a call on a run that is lent by `&mut`, over the call by
+-- The laws of walks at the run. In order: the answers as plain data; what calls by value return; `reads`, a reading
+-- of a run that is lent, over the reading by value; `moves`, a call on a run that is lent by `&mut`, over the call by
 -- value; `lends`, plain parameters above such a call. Assumes nothing.
 use Prim.Native.Nat.{ℕ}
 use mathlib.Core.Path.{_≡_, refl}
@@ -118,8 +118,8 @@ module _ (ps : List Data) (S : Data) (Said : Run → Values 0 tt ps → S .type 
 
 -- ---- calls
 
--- Over the call by value, whose result is P: `Promise h a n h′` is what both promise of the run h before, the parameters
--- a, the answer's number n and the run h′ after.
+-- Over the call by value, whose result is P: `Promise h a n h′` is what both promise of the run h before, the
+-- parameters a, the answer's number n and the run h′ after.
 module _ (ps : List Data) (P : Answered T.the-type T′.the-laws) (number : P .S .type .Denot → ℕ)
     (Promise : Run → Values 0 tt ps → ℕ → Run → Type 0) where
   abbrev Moves : Run → Values 0 tt ps → P .D .Denot → Type 0

@@ -1,5 +1,5 @@
--- No two different outcomes satisfy the promise of a function on a run that is lent, and a refusal leaves the very run.
--- The calls promise what those of `replay` do, so their theorems are cited; readings have theirs in
+-- No two different outcomes satisfy the promise of a function on a run that is lent, and a refusal leaves the very
+-- run. The calls promise what those of `replay` do, so their theorems are cited; readings have theirs in
 -- Rattle.readings.proofs.Unique, and leave the run by their type. In order: calls; setting up anew. Assumes nothing.
 use mathlib.Core.Path.{_≡_, refl, sym, _∙_}
 use Rattle.lists.proofs.Testing.{equal-or}

@@ -16,6 +16,7 @@ use Rattle.tracker.proofs.calls.request_in.Code as code
 pub request-in-spec : {M : Type 1} → statement M
 unfolding code.routine
 request-in-spec 𝓤 H 𝓜 𝓖 𝓡 =
-    moves (number w32 ∷ number w32 ∷ number w32 ∷ []) moved-parts callNumber (λ h a n h′. Promised h (request (a .0) (a .1 .0) (a .1 .1 .0)) n h′)
+    moves (number w32 ∷ number w32 ∷ number w32 ∷ []) moved-parts callNumber
+    (λ h a n h′. Promised h (request (a .0) (a .1 .0) (a .1 .1 .0)) n h′)
     𝓤 H 𝓜 𝓖 𝓡 (λ h a. fact 𝓤 (MadeRun h)) code.env name by-value.name
     (code.unfolded 𝓤 H 𝓜 𝓡) by-value.routine code.calls-replay·calls·request (met 𝓤 H 𝓜 𝓖 𝓡)

@@ -6,34 +6,23 @@ use Rattle.tracker.proofs.Restarted.{tag-number, tag-refused, restarted
 use Rattle.tracker.proofs.start.restarted.Statement.{statement}
 use Rattle.tracker.proofs.start.restarted.Tie as tie
 
-slice-aggregate-setup : tie.Need-slice-aggregate-setup
-slice-aggregate-setup c = search needs
-
-setup-requires : tie.Need-setup-requires
-setup-requires c κs = search needs
-
-enum-told : tie.Need-enum-told
-enum-told c = search needs
+-- the call's start, from the setup
+abbrev start : tie.After-setup → tie.Start
+start c = c .before .before .before
 
 returns : tie.Need-returns
 returns c =
-    restarted-accepted
-    (c .before .before .before .before .before .args .run)
-    (c .before .before .before .before .before .args .setup)
-    _
-    (c .before .before .setup .result .run)
-    (c .before .before .setup .ensures)
-    (sym (tag-number (c .before .before .setup .result .answer)) ∙ c .before .match .keys1)
+    let s = c .before .before in
+    let a = start s .args in
+    restarted-accepted (a .run) (a .setup) _ (s .setup .result .run) (s .setup .ensures)
+    (sym (tag-number (s .setup .result .answer)) ∙ c .before .match .keys1)
 
 returns-2 : tie.Need-returns-2
 returns-2 c =
-    restarted-refused
-    (c .before .before .before .before .args .run)
-    (c .before .before .before .before .args .setup)
-    _
-    (c .before .setup .result .run)
-    (c .before .setup .ensures)
-    (λ z. tag-refused _ (c .match .keys2) (tag-number (c .before .setup .result .answer) ∙ z))
+    let s = c .before in
+    let a = start s .args in
+    restarted-refused (a .run) (a .setup) _ (s .setup .result .run) (s .setup .ensures)
+    (λ z. tag-refused _ (c .match .keys2) (tag-number (s .setup .result .answer) ∙ z))
 
 pub restarted-spec : {M : Type 1} → statement M
-restarted-spec = tie.close (tie.spec slice-aggregate-setup setup-requires enum-told returns returns-2)
+restarted-spec = tie.close (tie.spec (λ c. search needs) (λ c κs. search needs) (λ c. search needs) returns returns-2)
