@@ -1,13 +1,12 @@
--- Laws of `times`, how often a number stands in a list. In order: `same`; `times` of a list that is put together or has a
--- number taken out; lists in which nothing stands twice. Assumes nothing.
+-- Laws of `times`, how often a number stands in a list. In order: `same`; `times` of a list that is put together or
+-- has a number taken out; lists in which nothing stands twice. Assumes nothing.
 use Prim.Native.Nat.{ℕ, zero, suc, _+_, _≤_, _<_, zero-le}
 use native.Mathlib.Omega.{arith}
 use native.Mathlib.Nat.{le-refl, not-suc-le-zero, le-of-suc-le-suc}
 use lib.Arith.{lt-of-le-ne}
-use mathlib.Core.Path.{_≡_, refl, sym, ap, _∙_}
+use mathlib.Core.Path.{_≡_, refl, sym, _∙_}
 use mathlib.Core.List.{List, [], _∷_, _++_}
 use lib.ListN.{length}
-use lib.Dec.{eqb}
 use borrow.Author.Tests.{eq-eqb, ne-eqb}
 use Rattle.lists.specs.Lists.{at, same, times, without}
 use Rattle.lists.proofs.Testing.{equal-or, cond-true, cond-false}

@@ -1,11 +1,11 @@
--- Laws of tests and of the choice `cond`. In order: a test comes out one way or the other; choices; conjunctions; ranges; a
--- list of refusals that gives 0. Assumes nothing.
+-- Laws of tests and of the choice `cond`. In order: a test comes out one way or the other; choices; conjunctions;
+-- ranges; a list of refusals that gives 0. Assumes nothing.
 use Prim.Native.Nat.{ℕ, suc, _≤_, _<_}
 use native.Mathlib.Omega.{arith}
-use mathlib.Core.Path.{_≡_, refl, sym, ap, _∙_}
+use mathlib.Core.Path.{_≡_, refl}
 use mathlib.Core.Bool.{Bool, true, false, cond, not, _&&_, _||_, true≢false, false≢true}
 use mathlib.Core.Logic.{_⊎_, inl, inr}
-use lib.Dec.{eqb, leb, ltb}
+use lib.Dec.{eqb, leb}
 use borrow.Author.Tests.{eqb-true, eqb-false, eq-eqb, leb-true, le-leb, lt-leb, not-false}
 use Rattle.lists.specs.Lists.{within}
 

@@ -1,5 +1,5 @@
--- Laws of `zeros`, the test that every entry of a list is 0: what it says of each entry; from a place on; on a stretch.
--- Assumes nothing.
+-- Laws of `zeros`, the test that every entry of a list is 0: what it says of each entry; from a place on; on a
+-- stretch. Assumes nothing.
 use Prim.Native.Nat.{ℕ, zero, suc, _+_, _≤_, _<_}
 use native.Mathlib.Omega.{arith}
 use native.Mathlib.Numerals.{add-one}
