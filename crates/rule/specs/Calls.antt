@@ -1,12 +1,12 @@
--- Document 01, "Calls on a run": what a call does, and what is refused. Assumes nothing.
+-- Document 01, "Calls on a run" and "Refusal numbers": what a call does, and what is refused. Assumes nothing.
 use Prim.Native.Nat.{ℕ, _-_}
 use mathlib.Core.Path.{_≡_}
 use mathlib.Core.Bool.{cond, not}
 use mathlib.Core.List.{List, [], _∷_, _++_}
 use lib.ListN.{set}
 use lib.Dec.{ltb, leb, eqb}
-use Rattle.lists.specs.Lists.{at, total, within}
-use Rattle.rule.specs.Refusal.{Refusal, refuse, first}
+use Rattle.lists.specs.Lists.{total, within}
+use Rattle.rule.specs.Refusal.{refuse, first}
 use Rattle.rule.specs.Setups.{setupRefusal}
 use Rattle.rule.specs.State.{State, fresh, isOpen}
 use Rattle.rule.specs.Tick.{ticks}
@@ -42,6 +42,7 @@ opened s k a =
       done = s .done;
     }
 
+-- each call, where it is accepted
 unfoldable pub effect : State → Call → State
 effect s (request t k a) = opened (moved s t) k a
 effect s (advance t) = moved s t

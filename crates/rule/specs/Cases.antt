@@ -1,5 +1,5 @@
--- Document 01, "Runs worked by hand": the starred runs, and runs of our own, as one list. Each case has what the definitions
--- give beside what is said of it; proofs/Computed.antt computes them all. Assumes nothing.
+-- Document 01, "Runs worked by hand": the starred runs, and runs of our own, as one list. Each case has what the
+-- definitions give beside what is said of it; proofs/Computed.antt computes them all. Assumes nothing.
 use Prim.Native.Nat.{ℕ}
 use mathlib.Core.List.{List, [], _∷_}
 use lib.ListN.{replicate}

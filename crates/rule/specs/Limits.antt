@@ -1,5 +1,6 @@
--- Setups and calls at both sides of each limit, and in each order of two refusals, as one list of cases: a changed number,
--- comparison or order changes a case. In order: setups, requests and advances, what a refusal leaves. Assumes nothing.
+-- Setups and calls at both sides of each limit, and in each order of two refusals, as one list of cases: a changed
+-- number, comparison or order changes a case. In order: setups, requests and advances, what a refusal leaves. Assumes
+-- nothing.
 use Prim.Native.Nat.{ℕ, _-_}
 use mathlib.Core.List.{List, [], _∷_, _++_}
 use lib.ListN.{length, replicate}
@@ -7,7 +8,7 @@ use Rattle.lists.specs.Lists.{at}
 use Rattle.rule.specs.Setups.{asked, setupRefusal, plain, orPlain}
 use Rattle.rule.specs.State.{State, fresh}
 use Rattle.rule.specs.Calls.{Call, request, advance, drain, refusal, call, calls}
-use Rattle.rule.specs.Cases.{Said, number, Case, robin}
+use Rattle.rule.specs.Cases.{number, Case, robin}
 use Rattle.rule.specs.declared.Setup.{Setup}
 
 -- ---- setups
@@ -82,9 +83,9 @@ timed =
     ∷ answers (idleAt 4_032_000_000) (advance 4_000_000_001) 10
     ∷ answers (idleAt 4_032_000_000) (advance 4_000_000_000) 11
     ∷ answers (idleAt 4_032_000_000) (request 4_000_000_001 0 1) 10
-    ∷ answers (idleAt 4_032_000_000) (request 4_000_000_000 0 1) 11
-    ∷ answers (idleAt 5) (request 4 2 1) 11 ∷ answers (idleAt 5) (request 4 0 0) 11
-    ∷ answers (idleAt 5) (request 5 2 0) 12 ∷ answers twoTicks (request 1 0 0) 13 ∷ answers twoTicks (request 1 0 1_000_001) 13
+    ∷ answers (idleAt 4_032_000_000) (request 4_000_000_000 0 1) 11 ∷ answers (idleAt 5) (request 4 2 1) 11
+    ∷ answers (idleAt 5) (request 4 0 0) 11 ∷ answers (idleAt 5) (request 5 2 0) 12
+    ∷ answers twoTicks (request 1 0 0) 13 ∷ answers twoTicks (request 1 0 1_000_001) 13
     ∷ answers (idleAt 4_032_000_000) drain 0
     ∷ []
 
@@ -108,7 +109,8 @@ left =
     ∷ leaves (setupRefusal plain) 0 ∷ leaves (plain .count) 1
     ∷ leaves (orPlain (robin 2 1) .count) 2 ∷ leaves (orPlain (robin 2 0) .count) 1
     -- one entry for each of the 32 tasks
-    ∷ leaves (length (fresh plain .owed)) 32 ∷ leaves (length (fresh plain .given)) 32 ∷ leaves (length (fresh plain .done)) 32
+    ∷ leaves (length (fresh plain .owed)) 32 ∷ leaves (length (fresh plain .given)) 32
+    ∷ leaves (length (fresh plain .done)) 32
     ∷ clocked twoTicks (request 1 0 1) 0 ∷ clocked twoTicks (request 2 0 1) 2
     ∷ clocked twoTicks (advance 4_000_000_001) 0 ∷ clocked twoTicks drain 2
     ∷ clocked (idleAt 4_032_000_000) drain 4_032_000_000

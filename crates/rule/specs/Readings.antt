@@ -1,6 +1,6 @@
--- Document 01, "Calls on a run", the readings that are not fields of the state: those of a task, and the next completion.
--- Assumes nothing.
-use Prim.Native.Nat.{ℕ, zero, suc, _+_}
+-- Document 01, "Calls on a run", the readings that are not fields of the state: those of a task, and the next
+-- completion. Assumes nothing.
+use Prim.Native.Nat.{ℕ, zero, suc}
 use mathlib.Core.Bool.{cond}
 use mathlib.Core.List.{List, [], _∷_}
 use lib.Dec.{leb, eqb}

@@ -1,5 +1,5 @@
--- Document 01, "Refusal numbers": a call's refusals are a list in the order in which they are judged, each number beside
--- its test. Assumes nothing.
+-- Document 01, "Refusal numbers": a call's refusals are a list in the order in which they are judged, each number
+-- beside its test. Assumes nothing.
 use Prim.Native.Nat.{ℕ}
 use mathlib.Core.Bool.{Bool, cond}
 use mathlib.Core.List.{List, [], _∷_}

@@ -5,13 +5,14 @@ use mathlib.Core.List.{List, [], _∷_}
 use lib.ListN.{length, drop, replicate}
 use lib.Dec.{eqb}
 use Rattle.lists.specs.Lists.{within, zeros}
-use Rattle.rule.specs.Refusal.{Refusal, refuse, first}
+use Rattle.rule.specs.Refusal.{refuse, first}
 use Rattle.rule.specs.declared.Setup.{Setup}
 
 -- "A setup is a policy (1 priority, 2 round robin), a task count, a slice length and 32 priority bytes."
 abbrev pub asked : ℕ → ℕ → ℕ → List ℕ → Setup
 asked policy count slice priority = record { policy = policy; count = count; slice = slice; priority = priority }
 
+-- "1 priority, 2 round robin"
 abbrev pub isPriority : Setup → Bool
 isPriority p = eqb (p .policy) 1
 

@@ -1,4 +1,5 @@
--- The state that the tick-by-tick rule works on, in plain lists. Assumes nothing.
+-- Document 01, "Setting up a run" and "The tick-by-tick rule": the state that the rule works on, in plain lists.
+-- Assumes nothing.
 use Prim.Native.Nat.{ℕ}
 use mathlib.Core.Bool.{Bool}
 use mathlib.Core.List.{List, []}
@@ -10,12 +11,12 @@ use Rattle.rule.specs.declared.Setup.{Setup}
 pub record State : Type 0 where
   pub setup : Setup
   pub clock : ℕ
-  pub idle : ℕ  -- idle ticks
+  pub idle : ℕ  -- "idle ticks"
   pub used : ℕ  -- "a count says how much of the head's slice is used"
   pub queue : List ℕ  -- "The open tasks stand in a queue", under both policies
-  pub owed : List ℕ  -- for each of the 32 tasks: ticks owed,
+  pub owed : List ℕ  -- for each of the 32 tasks: "ticks owed (0 if not open),
   pub given : List ℕ  -- ticks given since the start,
-  pub done : List ℕ  -- and the latest completion, 0 for never
+  pub done : List ℕ  -- latest completion or never", which is 0
 
 -- "A fresh run has clock 0, nothing open, nothing given, and no task has a completion."
 abbrev pub fresh : Setup → State

@@ -5,7 +5,7 @@ use mathlib.Core.List.{List, [], _∷_, _++_}
 use lib.ListN.{length, drop}
 use lib.Dec.{ltb, eqb}
 use Rattle.lists.specs.Lists.{at}
-use Rattle.rule.specs.Refusal.{Refusal, refuse, first}
+use Rattle.rule.specs.Refusal.{refuse, first}
 use Rattle.rule.specs.Setups.{setupRefusal}
 use Rattle.rule.specs.State.{State, fresh}
 use Rattle.rule.specs.Calls.{moved, drained, Call, request, advance, drain, refusal, call, calls}
@@ -17,8 +17,8 @@ pub data Outcome : Type 0 where
 
 -- ---- the rows, "requested in order, then it drains"
 
--- "row i's completion time": that of its own request. In the state s task k's request was just made; calls follow, and
--- then the drain. The completion is the task's latest just before its next request, or at the end.
+-- "row i's completion time": that of its own request. In the state s task k's request was just made; calls follow,
+-- and then the drain. The completion is the task's latest just before its next request, or at the end.
 unfoldable pub completion : State → ℕ → List Call → ℕ
 completion s k [] = at (drained s .done) k
 completion s k (request t j a ∷ cs) =
@@ -26,6 +26,7 @@ completion s k (request t j a ∷ cs) =
 completion s k (advance t ∷ cs) = completion (call s (advance t)) k cs
 completion s k (drain ∷ cs) = completion (call s drain) k cs
 
+-- that of each row
 unfoldable pub completions : State → List Call → List ℕ
 completions s [] = []
 completions s (request t k a ∷ cs) =
@@ -33,8 +34,8 @@ completions s (request t k a ∷ cs) =
 completions s (advance t ∷ cs) = completions (call s (advance t)) cs
 completions s (drain ∷ cs) = completions (call s drain) cs
 
--- "If any row is refused, the table is refused with the first such row": calls are counted from i, and o is the outcome
--- where none is refused
+-- "If any row is refused, the table is refused with the first such row": calls are counted from i, and o is the
+-- outcome where none is refused
 unfoldable pub unlessRefused : ℕ → State → List Call → Outcome → Outcome
 unlessRefused i s [] o = o
 unlessRefused i s (c ∷ cs) o =
@@ -74,7 +75,8 @@ tableFrom n p cs = cond (eqb n 0) (outcomeFrom (fresh p) cs) (refused n 0)
 unfoldable pub table : Setup → List ℕ → List ℕ → List ℕ → ℕ → Outcome
 table p ts ks ms room = tableFrom (tableRefusal p (length ts) (length ks) (length ms) room) p (rows ts ks ms)
 
--- "Entry i of the result becomes row i's completion time; entries past the rows stay. .. no entry is written."
+-- "Entry i of the result becomes row i's completion time; entries past the rows stay. .. If any row is refused, .. no
+-- entry is written."
 unfoldable pub written : Outcome → List ℕ → List ℕ
 written (refused n i) column = column
 written (finished ts end) column = ts ++ drop (length ts) column

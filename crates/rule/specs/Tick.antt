@@ -23,22 +23,25 @@ unfoldable pub best : List ℕ → ℕ → List ℕ → ℕ
 best prio b [] = b
 best prio b (k ∷ ks) = best prio (before prio b k) ks
 
--- "Priority. The tick goes to the open task with the greatest priority number .. Round robin. .. the head gets the tick".
--- Where no task is open it is not asked.
+-- "Priority. The tick goes to the open task with the greatest priority number .. Round robin. .. the head gets the
+-- tick". Where no task is open it is not asked.
 unfoldable pub chosen : Setup → List ℕ → ℕ
 chosen p [] = 0
 chosen p (h ∷ t) = cond (isPriority p) (best (p .priority) h t) h
 
--- ---- the turn: "At the start of a tick, if the used count equals the slice length, the head moves to the back and the
--- count becomes 0."
+-- ---- the turn
 
+-- the used count equals the slice length; under priority there is none
 unfoldable pub overdue : State → Bool
 overdue s = cond (isPriority (s .setup)) false (eqb (s .used) (s .setup .slice))
 
+-- the head moves to the back
 unfoldable pub headBack : List ℕ → List ℕ
 headBack [] = []
 headBack (h ∷ t) = t ++ h ∷ []
 
+-- "At the start of a tick, if the used count equals the slice length, the head moves to the back and the count
+-- becomes 0."
 unfoldable pub turn : State → State
 turn s =
     record {
@@ -62,8 +65,8 @@ usedMore p used n = cond (isPriority p) 0 (used + n)
 abbrev pub last : State → ℕ → ℕ → Bool
 last s i n = eqb (at (s .owed) i) n
 
--- "A task whose last owed tick runs from t to t + 1 is done at t + 1. It is then no longer open; in round robin it leaves
--- the queue and the used count becomes 0."
+-- "A task whose last owed tick runs from t to t + 1 is done at t + 1. It is then no longer open; in round robin it
+-- leaves the queue and the used count becomes 0."
 unfoldable pub give : State → ℕ → ℕ → State
 give s i n =
     record {
@@ -93,9 +96,11 @@ rest s n =
       done = s .done;
     }
 
+-- "Then the head gets the tick and the count grows by one."
 unfoldable pub serve : State → State
 serve s = give s (chosen (s .setup) (s .queue)) 1
 
+-- with this queue: an idle tick, or the turn and then the service
 unfoldable pub tickOn : State → List ℕ → State
 tickOn s [] = rest s 1
 tickOn s (h ∷ t) = serve (turn s)
@@ -103,6 +108,7 @@ tickOn s (h ∷ t) = serve (turn s)
 unfoldable pub tick : State → State
 tick s = tickOn s (s .queue)
 
+-- n ticks in a row
 unfoldable pub ticks : ℕ → State → State
 ticks zero s = s
 ticks (suc n) s = ticks n (tick s)

@@ -1,7 +1,7 @@
--- A run as the rule's state, and what a setup and a call promise of the run that they give. Assumes nothing.
+-- Document 01, "What proofs have to settle": a run as the rule's state, and what a setup and a call promise of the
+-- run that they give. Assumes nothing.
 use Prim.Native.Nat.{ℕ, _-_, _≤_}
 use mathlib.Core.Path.{_≡_}
-use mathlib.Core.List.{List}
 use lib.ListN.{take, drop, length, replicate}
 use Rattle.rule.specs.Setups.{setupRefusal, orPlain}
 use Rattle.rule.specs.State.{State, fresh}
@@ -9,6 +9,7 @@ use Rattle.rule.specs.Calls.{Call, refusal, call, Made}
 use Rattle.rule.specs.declared.Setup.{Setup}
 use Rattle.rule.specs.declared.Run.{Run}
 
+-- The state that a run stands for: the queue is the first part of its array.
 abbrev pub view : Run → State
 view r =
     record {
@@ -43,7 +44,8 @@ pub record Started (p : Setup) (number : ℕ) (r : Run) : Type 0 where
   pub answer : number ≡ setupRefusal p
   pub run : Shows r (fresh (orPlain p))
 
--- A call's number (0: accepted) and the run afterwards.
+-- "Every public call has a promise that determines its answer, the run afterwards ..": a call's number (0: accepted)
+-- and the run.
 pub record Promised (before : Run) (c : Call) (number : ℕ) (after : Run) : Type 0 where
   pub answer : number ≡ refusal (view before) c
   pub run : Shows after (call (view before) c)

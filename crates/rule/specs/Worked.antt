@@ -1,11 +1,13 @@
--- Readings and tables worked by hand, as one list of cases. Assumes nothing.
+-- Document 01, "Calls on a run" and "Tables": readings and tables worked by hand, as one list of cases. Assumes
+-- nothing.
 use Prim.Native.Nat.{ℕ}
 use mathlib.Core.List.{List, [], _∷_, _++_}
 use Rattle.rule.specs.State.{State, fresh}
 use Rattle.rule.specs.Calls.{drained, request, advance, call, calls}
-use Rattle.rule.specs.Readings.{Reading, value, never, Soonest, nothing, done, owedOf, givenOf, completedOf, nextDone}
+use Rattle.rule.specs.Readings.{Reading, value, never, Soonest, nothing, done, owedOf, givenOf, completedOf}
+use Rattle.rule.specs.Readings.{nextDone}
 use Rattle.rule.specs.Table.{Outcome, refused, finished, tableRefusal, table, written}
-use Rattle.rule.specs.Cases.{Said, number, reads, next, comes, column, Case, robin, single}
+use Rattle.rule.specs.Cases.{number, reads, next, comes, column, Case, robin, single}
 use Rattle.rule.specs.Limits.{idleAt}
 
 -- ---- readings
@@ -18,6 +20,9 @@ atFour = calls (fresh (robin 2 1)) (request 0 0 5 ∷ request 2 1 2 ∷ advance 
 abbrev askedAgain : State
 askedAgain = calls (fresh single) (request 0 0 2 ∷ request 3 0 4 ∷ [])
 
+abbrev noSuchTask : Reading
+noSuchTask = Reading.refused 12
+
 abbrev reading : Reading → Reading → Case
 reading r e = record { found = reads r; said = reads e }
 
@@ -26,15 +31,18 @@ nextIs s e = record { found = next (nextDone s); said = next e }
 
 abbrev readings : List Case
 readings =
-    reading (owedOf atFour 0) (value 2) ∷ reading (owedOf atFour 1) (value 1) ∷ reading (owedOf atFour 2) (Reading.refused 12)
-    ∷ reading (givenOf atFour 0) (value 3) ∷ reading (givenOf atFour 1) (value 1) ∷ reading (givenOf atFour 2) (Reading.refused 12)
-    ∷ reading (completedOf atFour 0) never ∷ reading (completedOf atFour 31) (Reading.refused 12)
+    reading (owedOf atFour 0) (value 2) ∷ reading (owedOf atFour 1) (value 1)
+    ∷ reading (givenOf atFour 0) (value 3) ∷ reading (givenOf atFour 1) (value 1)
+    ∷ reading (owedOf atFour 2) noSuchTask ∷ reading (givenOf atFour 2) noSuchTask
+    ∷ reading (completedOf atFour 0) never ∷ reading (completedOf atFour 31) noSuchTask
     -- by the count, which is here not the policy's number
-    ∷ reading (owedOf (fresh (robin 3 1)) 2) (value 0) ∷ reading (owedOf (fresh (robin 3 1)) 3) (Reading.refused 12)
+    ∷ reading (owedOf (fresh (robin 3 1)) 2) (value 0) ∷ reading (owedOf (fresh (robin 3 1)) 3) noSuchTask
     ∷ reading (completedOf (drained atFour) 1) (value 5) ∷ reading (owedOf (drained atFour) 1) (value 0)
-    ∷ reading (completedOf askedAgain 0) (value 2) ∷ reading (givenOf askedAgain 0) (value 2) ∷ reading (owedOf askedAgain 0) (value 4)
+    ∷ reading (completedOf askedAgain 0) (value 2) ∷ reading (givenOf askedAgain 0) (value 2)
+    ∷ reading (owedOf askedAgain 0) (value 4)
     ∷ nextIs atFour (done 1 5) ∷ nextIs (call atFour (advance 5)) (done 0 7) ∷ nextIs (drained atFour) nothing
-    ∷ nextIs askedAgain (done 0 7) ∷ nextIs (call (idleAt 4_000_000_000) (request 4_000_000_000 0 1)) (done 0 4_000_000_001)
+    ∷ nextIs askedAgain (done 0 7)
+    ∷ nextIs (call (idleAt 4_000_000_000) (request 4_000_000_000 0 1)) (done 0 4_000_000_001)
     ∷ []
 
 -- ---- tables
@@ -42,6 +50,12 @@ readings =
 abbrev columns : ℕ → ℕ → ℕ → ℕ → ℕ → Case
 columns times tasks amounts room n =
     record { found = number (tableRefusal single times tasks amounts room); said = number n }
+
+abbrev tabled : List ℕ → List ℕ → List ℕ → ℕ → Outcome → Case
+tabled ts ks ms room o = record { found = comes (table single ts ks ms room); said = comes o }
+
+abbrev writes : Outcome → List ℕ → Case
+writes o l = record { found = column (written o (1 ∷ 2 ∷ 3 ∷ [])); said = column l }
 
 abbrev tables : List Case
 tables =
@@ -52,13 +66,14 @@ tables =
     ∷ columns 1_025 1_025 1_024 0 20 ∷ columns 1_025 1_025 1_025 0 21
     ∷ record { found = number (tableRefusal (robin 1 0) 1 2 3 0); said = number 3 }
     -- 22 before rows; then the first refused row
-    ∷ record { found = comes (table single (0 ∷ []) (1 ∷ []) (1 ∷ []) 0); said = comes (refused 22 0) }
-    ∷ record { found = comes (table single (0 ∷ []) (1 ∷ []) (1 ∷ []) 1); said = comes (refused 12 1) }
-    ∷ record { found = comes (table single (0 ∷ 0 ∷ 0 ∷ []) (0 ∷ 0 ∷ 1 ∷ []) (1 ∷ 1 ∷ 1 ∷ []) 3); said = comes (refused 14 2) }
-    ∷ record { found = comes (table single [] [] [] 0); said = comes (finished [] 0) }
+    ∷ tabled (0 ∷ []) (1 ∷ []) (1 ∷ []) 0 (refused 22 0)
+    ∷ tabled (0 ∷ []) (1 ∷ []) (1 ∷ []) 1 (refused 12 1)
+    ∷ tabled (0 ∷ 0 ∷ 0 ∷ []) (0 ∷ 0 ∷ 1 ∷ []) (1 ∷ 1 ∷ 1 ∷ []) 3 (refused 14 2)
+    -- L: "no rows, task count 1: end 0, nothing written"
+    ∷ tabled [] [] [] 0 (finished [] 0)
     -- entries past the rows stay, and a refusal writes none
-    ∷ record { found = column (written (finished (7 ∷ 5 ∷ []) 7) (1 ∷ 2 ∷ 3 ∷ [])); said = column (7 ∷ 5 ∷ 3 ∷ []) }
-    ∷ record { found = column (written (refused 14 2) (1 ∷ 2 ∷ 3 ∷ [])); said = column (1 ∷ 2 ∷ 3 ∷ []) }
+    ∷ writes (finished (7 ∷ 5 ∷ []) 7) (7 ∷ 5 ∷ 3 ∷ [])
+    ∷ writes (refused 14 2) (1 ∷ 2 ∷ 3 ∷ [])
     ∷ []
 
 abbrev pub worked : List Case

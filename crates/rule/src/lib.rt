@@ -1,4 +1,5 @@
-// The run: what the replay holds between two calls. What its fields mean, and what each call does to them, is said in specs/.
+// The run: what the replay holds between two calls. What its fields mean, and what each call does to them, is said in
+// specs/.
 
 // A setup: document 01, "Setting up a run".
 #[repr(C)]
@@ -9,8 +10,8 @@ pub struct Setup {
     pub priority: [u8; 32],
 }
 
-// The first `queued` entries of the queue's array are the open tasks, in the order in which they were requested or have
-// had their turn; the others are 0. `done` holds each task's latest completion, 0 for never.
+// The first `queued` entries of the queue's array are the open tasks, in the order in which they were requested or
+// have had their turn; the others are 0. `done` holds each task's latest completion, 0 for never.
 #[repr(C)]
 pub struct Run {
     pub setup: Setup,
