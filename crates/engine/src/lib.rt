@@ -82,8 +82,8 @@ pub struct Asked {
     pub cursor: Cursor,
 }
 
-// A request on the parts. Refused by 14 it leaves them moved to the time. Only tables call it: with one caller it is part of
-// their loop, which saves over 50 instructions a row.
+// A request on the parts. Refused by 14 it leaves them moved to the time. Only tables call it: with one caller it is
+// part of their loop, which saves over 50 instructions a row.
 pub fn ask(
     s: Setup,
     c: Cursor,

@@ -1,5 +1,5 @@
--- Laws of the queue's array as a list. In order: the ring; the ring put straight; one task more; a task taken out at its
--- place. Assumes nothing.
+-- Laws of the queue's array as a list. In order: the ring; the ring put straight; one task more; a task taken out at
+-- its place. Assumes nothing.
 use Prim.Native.Nat.{ℕ, zero, suc, _+_, _-_, _≤_, _<_}
 use native.Mathlib.Omega.{arith}
 use native.Mathlib.Numerals.{add-one}

@@ -32,9 +32,6 @@ passed c = early-passed _ _ _ _ _ (early c)
 known : (c : tie.Else1) → c .before .before .args .task < 32
 known c = omega (arith, passed c .task, c .before .before .pre .1 .few)
 
-early-refusal-requires : tie.Need-early-refusal-requires
-early-refusal-requires c κs = search needs
-
 returns : tie.Need-returns
 returns c =
     let s = c .before .before in
@@ -45,9 +42,6 @@ walk-requires c κs =
     let e = c .before .before .before .before in
     let s = e .before .before in
     (s .pre .0, (s .pre .1, (passed e .later, omega (arith, passed e .time))))
-
-mul-o : tie.Need-mul-o
-mul-o c = search needs
 
 element-copy-out-o : tie.Need-element-copy-out-o
 element-copy-out-o c = known (past c)
@@ -82,10 +76,10 @@ pub ask-spec : {M : Type 1} → statement M
 ask-spec =
     tie.close
     (tie.spec
-    early-refusal-requires
+    (λ c κs. search needs)
     returns
     walk-requires
-    mul-o
+    (λ c. search needs)
     element-copy-out-o
     returns-2
     cast-joined

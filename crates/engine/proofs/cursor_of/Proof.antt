@@ -9,13 +9,10 @@ head-of-requires c κs =
     let s = c .before .before .before in
     (s .pre .0 .whole, (run-tasks (s .args .run) (s .pre .0) (s .pre .1), s .pre .0 .fits))
 
-cast-t6 : tie.Need-cast-t6
-cast-t6 c = search needs
-
 returns : tie.Need-returns
 returns c =
     let s = c .before .before .before .before .before in
     apart (s .args .run) (s .pre .0) _ (c .before .head-of .ensures)
 
 pub cursor-of-spec : {M : Type 1} → statement M
-cursor-of-spec = tie.close (tie.spec head-of-requires cast-t6 returns)
+cursor-of-spec = tie.close (tie.spec head-of-requires (λ c. search needs) returns)

@@ -9,12 +9,6 @@ use Rattle.engine.proofs.Walks.{drained-moved}
 use Rattle.engine.proofs.drain_on.Statement.{statement}
 use Rattle.engine.proofs.drain_on.Tie as tie
 
-total-of-requires : tie.Need-total-of-requires
-total-of-requires c κs = search needs
-
-add-walk : tie.Need-add-walk
-add-walk c = search needs
-
 walk-requires : tie.Need-walk-requires
 walk-requires c κs =
     let s = c .before .before .before .before .before .before .before in
@@ -34,4 +28,4 @@ returns c =
     }
 
 pub drain-on-spec : {M : Type 1} → statement M
-drain-on-spec = tie.close (tie.spec total-of-requires add-walk walk-requires returns)
+drain-on-spec = tie.close (tie.spec (λ c κs. search needs) (λ c. search needs) walk-requires returns)

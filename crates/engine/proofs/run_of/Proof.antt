@@ -8,9 +8,6 @@ use Rattle.engine.proofs.Assembly.{together}
 use Rattle.engine.proofs.run_of.Statement.{statement}
 use Rattle.engine.proofs.run_of.Tie as tie
 
-straightened-requires : tie.Need-straightened-requires
-straightened-requires c κs = search needs
-
 cast-t14 : tie.Need-cast-t14
 unfolding straightTo
 cast-t14 c =
@@ -27,4 +24,4 @@ returns c =
     (w .result) (s .pre .0) (w .ensures .0) (w .ensures .1)
 
 pub run-of-spec : {M : Type 1} → statement M
-run-of-spec = tie.close (tie.spec straightened-requires cast-t14 returns)
+run-of-spec = tie.close (tie.spec (λ c κs. search needs) cast-t14 returns)

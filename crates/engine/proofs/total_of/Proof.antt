@@ -20,12 +20,6 @@ loop-holds : tie.Need-loop-holds Inv-loop μ-loop
 unfolding total
 loop-holds c = (omega arith, refl)
 
-mul-sum : tie.Need-mul-sum Inv-loop μ-loop
-mul-sum c = search needs
-
-element-copy-out-sum : tie.Need-element-copy-out-sum Inv-loop μ-loop
-element-copy-out-sum c = search needs
-
 add-sum : tie.Need-add-sum Inv-loop μ-loop
 add-sum c =
     let s = c .before .before .before in
@@ -58,8 +52,8 @@ total-of-spec =
     Inv-loop
     μ-loop
     loop-holds
-    mul-sum
-    element-copy-out-sum
+    (λ c. search needs)
+    (λ c. search needs)
     add-sum
     add-k
     loop-less

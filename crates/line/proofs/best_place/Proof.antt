@@ -18,9 +18,6 @@ Inv-loop priority n queue place₀ task₀ top₀ k₀ place task top k = Scanne
 abbrev μ-loop : tie.MeasureT-loop
 μ-loop priority n queue place₀ task₀ top₀ k₀ place task top k = n - k
 
-element-copy-out-task : tie.Need-element-copy-out-task Inv-loop μ-loop
-element-copy-out-task c = search needs
-
 cast-top : tie.Need-cast-top Inv-loop μ-loop
 cast-top c = omega (arith, c .before .pre .1 .0 0)
 
@@ -30,23 +27,11 @@ element-copy-out-top c = c .before .pre .1 .0 0
 loop-holds : tie.Need-loop-holds Inv-loop μ-loop
 loop-holds c = record { inside = omega arith; stands = refl; ranks = refl; ahead = refl }
 
-element-copy-out-other : tie.Need-element-copy-out-other Inv-loop μ-loop
-element-copy-out-other c = search needs
-
 cast-p : tie.Need-cast-p Inv-loop μ-loop
 cast-p c = omega (arith, c .before .before .before .before .before .pre .1 .0 (c .before .before .loop .k))
 
 element-copy-out-p : tie.Need-element-copy-out-p Inv-loop μ-loop
 element-copy-out-p c = c .before .before .before .before .before .pre .1 .0 (c .before .before .loop .k)
-
-overtakes-requires : tie.Need-overtakes-requires Inv-loop μ-loop
-overtakes-requires c κs = search needs
-
-add-k : tie.Need-add-k Inv-loop μ-loop
-add-k c = search needs
-
-loop-less : tie.Need-loop-less Inv-loop μ-loop
-loop-less c = search needs
 
 loop-again : tie.Need-loop-again Inv-loop μ-loop
 loop-again c =
@@ -67,7 +52,8 @@ loop-again c =
     let second = before-overtakes prio (i .task) (at q (i .k)) (i .top) (at prio (at q (i .k))) (i .inv .ranks) refl in
     ⊎-elim
     (λ x.
-    on (i .k) _ _ _ (omega (arith, h)) (second true (x .0 .taken) (sym (x .2 .taken) ∙ x .1 .ensures)) (x .3) (x .4) (x .5))
+    let e = second true (x .0 .taken) (sym (x .2 .taken) ∙ x .1 .ensures) in
+    on (i .k) _ _ _ (omega (arith, h)) e (x .3) (x .4) (x .5))
     (⊎-elim
     (λ x.
     stays (second false (x .0 .taken) (sym (x .2 .left) ∙ x .1 .ensures)) _ _ _ (x .3) (x .4) (x .5))
@@ -89,15 +75,15 @@ best-place-spec =
     (tie.spec
     Inv-loop
     μ-loop
-    element-copy-out-task
+    (λ c. search needs)
     cast-top
     element-copy-out-top
     loop-holds
-    element-copy-out-other
+    (λ c. search needs)
     cast-p
     element-copy-out-p
-    overtakes-requires
-    add-k
-    loop-less
+    (λ c κs. search needs)
+    (λ c. search needs)
+    (λ c. search needs)
     loop-again
     returns)

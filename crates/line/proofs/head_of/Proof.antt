@@ -6,9 +6,6 @@ use Rattle.lists.proofs.Testing.{cond-true, cond-false}
 use Rattle.line.proofs.head_of.Statement.{statement}
 use Rattle.line.proofs.head_of.Tie as tie
 
-best-place-requires : tie.Need-best-place-requires
-best-place-requires c κs = search needs
-
 returns : tie.Need-returns
 returns c =
     let policy = c .before .before .before .if1 .taken in
@@ -29,4 +26,4 @@ returns-3 c =
     }
 
 pub head-of-spec : {M : Type 1} → statement M
-head-of-spec = tie.close (tie.spec best-place-requires returns returns-2 returns-3)
+head-of-spec = tie.close (tie.spec (λ c κs. search needs) returns returns-2 returns-3)

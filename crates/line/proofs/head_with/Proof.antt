@@ -23,8 +23,8 @@ start c = c .before .before .before .before .before
 
 more : (c : tie.After-other) (r : ℕ)
     → let a = start c .args in
-    r ≤ a .n → before (a .s .priority) (at (a .queue .now) (a .place)) (at (a .queue .now) (a .n)) ≡ at (a .queue .now) r
-    → Heads (a .s) (a .place) (a .n + 1) (a .queue .now) r
+    let q = a .queue .now in
+    r ≤ a .n → before (a .s .priority) (at q (a .place)) (at q (a .n)) ≡ at q r → Heads (a .s) (a .place) (a .n + 1) q r
 more c r i e =
     let s = start c in
     let a = s .args in
@@ -45,9 +45,6 @@ returns c =
 element-copy-out-task : tie.Need-element-copy-out-task
 element-copy-out-task c = let s = c .before .before .before in omega (arith, below s, s .pre .1 .1 .0)
 
-element-copy-out-other : tie.Need-element-copy-out-other
-element-copy-out-other c = search needs
-
 cast-top : tie.Need-cast-top
 cast-top c = let s = start c in omega (arith, s .pre .1 .0 (s .args .place))
 
@@ -64,9 +61,6 @@ returns-2 : tie.Need-returns-2
 returns-2 c =
     let l = c .before in
     more l _ (omega (arith, below (start l))) (before-stays _ _ _ _ _ refl refl (c .if2 .taken))
-
-overtakes-requires : tie.Need-overtakes-requires
-overtakes-requires c κs = search needs
 
 returns-3 : tie.Need-returns-3
 returns-3 c =
@@ -88,12 +82,12 @@ head-with-spec =
     (tie.spec
     returns
     element-copy-out-task
-    element-copy-out-other
+    (λ c. search needs)
     cast-top
     array-read-top
     cast-p
     array-read-p
     returns-2
-    overtakes-requires
+    (λ c κs. search needs)
     returns-3
     returns-4)

@@ -17,18 +17,6 @@ returns c =
     straight-zero (s .args .n) (s .args .q)
     ∙ ap (λ (h : ℕ). ring h (s .args .n) (s .args .q) ++ drop (s .args .n) (s .args .q)) (sym (c .if1 .taken))
 
-sub-put : tie.Need-sub-put
-sub-put c = search needs
-
-put-requires : tie.Need-put-requires
-put-requires c κs = search needs
-
-sub-put-2 : tie.Need-sub-put-2
-sub-put-2 c = search needs
-
-put-requires-2 : tie.Need-put-requires-2
-put-requires-2 c κs = search needs
-
 returns-2 : tie.Need-returns-2
 returns-2 c =
     let s = c .before .before .before in
@@ -40,4 +28,11 @@ returns-2 c =
 
 pub straight-spec : {M : Type 1} → statement M
 straight-spec =
-    tie.close (tie.spec returns sub-put put-requires sub-put-2 put-requires-2 returns-2)
+    tie.close
+    (tie.spec
+    returns
+    (λ c. search needs)
+    (λ c κs. search needs)
+    (λ c. search needs)
+    (λ c κs. search needs)
+    returns-2)

@@ -34,20 +34,11 @@ loop-holds c = (
   movedUp-start (c .args .place) (c .args .queue .now) (inside c) (c .pre .0),
 )
 
-add-queue : tie.Need-add-queue Inv-loop μ-loop
-add-queue c = search needs
-
 element-copy-out-queue : tie.Need-element-copy-out-queue Inv-loop μ-loop
 element-copy-out-queue c = omega (arith, whole (c .before), c .before .loop .inv)
 
 element-write-queue : tie.Need-element-write-queue Inv-loop μ-loop
 element-write-queue c = omega (arith, whole (c .before .before), c .before .before .loop .inv)
-
-add-k : tie.Need-add-k Inv-loop μ-loop
-add-k c = search needs
-
-loop-less : tie.Need-loop-less Inv-loop μ-loop
-loop-less c = search needs
 
 loop-again : tie.Need-loop-again Inv-loop μ-loop
 loop-again c =
@@ -77,11 +68,11 @@ take-out-spec =
     μ-loop
     sub-last
     loop-holds
-    add-queue
+    (λ c. search needs)
     element-copy-out-queue
     element-write-queue
-    add-k
-    loop-less
+    (λ c. search needs)
+    (λ c. search needs)
     loop-again
     element-write-queue-2
     returns)

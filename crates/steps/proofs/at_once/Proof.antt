@@ -5,9 +5,6 @@ use borrow.Author.Needs.{needs}
 use Rattle.steps.proofs.at_once.Statement.{statement}
 use Rattle.steps.proofs.at_once.Tie as tie
 
-least-requires : tie.Need-least-requires
-least-requires c κs = search needs
-
 returns : tie.Need-returns
 returns c =
     let s = c .before .before .before in
@@ -21,9 +18,6 @@ returns c =
 
 sub-least : tie.Need-sub-least
 sub-least c = omega (arith, c .before .before .before .before .pre .1 .1 (ne-eqb _ 1 (c .before .if1 .left)))
-
-least-requires-2 : tie.Need-least-requires-2
-least-requires-2 c κs = search needs
 
 returns-2 : tie.Need-returns-2
 returns-2 c =
@@ -39,4 +33,4 @@ returns-2 c =
     }
 
 pub at-once-spec : {M : Type 1} → statement M
-at-once-spec = tie.close (tie.spec least-requires returns sub-least least-requires-2 returns-2)
+at-once-spec = tie.close (tie.spec (λ c κs. search needs) returns sub-least (λ c κs. search needs) returns-2)

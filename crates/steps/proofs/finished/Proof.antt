@@ -6,18 +6,6 @@ use Rattle.line.proofs.Rings.{takenOut-length, takenOut-below}
 use Rattle.steps.proofs.finished.Statement.{statement}
 use Rattle.steps.proofs.finished.Tie as tie
 
-add-clock : tie.Need-add-clock
-add-clock c = search needs
-
-mul-done : tie.Need-mul-done
-mul-done c = search needs
-
-element-write-done : tie.Need-element-write-done
-element-write-done c = search needs
-
-sub-left : tie.Need-sub-left
-sub-left c = search needs
-
 take-out-requires : tie.Need-take-out-requires
 take-out-requires c κs =
     let s = c .before .before .before in
@@ -35,17 +23,14 @@ head-of-requires c κs =
       (takenOut-below 32 h q (s .pre .1 .1 .1 .0), omega (arith, K .fits)),
     )
 
-returns : tie.Need-returns
-returns c = search needs
-
 pub finished-spec : {M : Type 1} → statement M
 finished-spec =
     tie.close
     (tie.spec
-    add-clock
-    mul-done
-    element-write-done
-    sub-left
+    (λ c. search needs)
+    (λ c. search needs)
+    (λ c. search needs)
+    (λ c. search needs)
     take-out-requires
     head-of-requires
-    returns)
+    (λ c. search needs))

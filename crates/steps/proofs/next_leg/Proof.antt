@@ -26,9 +26,6 @@ owes c =
 known : (c : tie.After-turned) → at (c .before .args .queue .now) (c .turned .result .head) < 32
 known c = omega (arith, at-inside (c .before .args .owed .now) _ (owes c), c .before .pre .0 .owed32)
 
-turned-requires : tie.Need-turned-requires
-turned-requires c κs = search needs
-
 element-copy-out-task : tie.Need-element-copy-out-task
 element-copy-out-task c = omega (arith, some c, c .before .pre .0 .kept .fits)
 
@@ -64,7 +61,7 @@ pub next-leg-spec : {M : Type 1} → statement M
 next-leg-spec =
     tie.close
     (tie.spec
-    turned-requires
+    (λ c κs. search needs)
     element-copy-out-task
     cast-i
     mul-o

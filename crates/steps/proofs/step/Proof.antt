@@ -22,9 +22,6 @@ module _ (c : tie.After-next-leg) where
   time : start .args .c .clock + start .args .s .slice ≤ 4_032_000_000
   time = omega (arith, due .whole, start .pre .1 .1 .1)
 
-rested-requires : tie.Need-rested-requires
-rested-requires c κs = search needs
-
 returns : tie.Need-returns
 returns c =
     let s = c .before .before .before in
@@ -35,20 +32,19 @@ returns c =
 
 give-leg-requires : tie.Need-give-leg-requires
 give-leg-requires c κs =
-    let p = c .before .before .before .before .before .before .before .before .pre in
-    (p .0, (p .1 .0, (p .1 .1 .0, (p .1 .1 .1, omega (arith, c .before .before .before .before .before .before .if1 .left)))))
+    let busy = c .before .before .before .before .before .before in
+    let p = busy .before .before .pre in
+    (p .0, (p .1 .0, (p .1 .1 .0, (p .1 .1 .1, omega (arith, busy .if1 .left)))))
 
 returns-2 : tie.Need-returns-2
 returns-2 c = c .give-leg .ensures
 
-slice-due-requires : tie.Need-slice-due-requires
-slice-due-requires c κs = search needs
-
 next-leg-requires : tie.Need-next-leg-requires
 next-leg-requires c κs =
-    let p = c .before .before .before .before .before .before .before .before .pre in
+    let busy = c .before .before .before .before .before .before in
+    let p = busy .before .before .pre in
     let D = c .before .before .before .slice-due .ensures (c .before .before .if3 .taken) in (
-      ready _ _ _ _ _ _ (p .0) (p .1 .0) (omega (arith, c .before .before .before .before .before .before .if1 .left)),
+      ready _ _ _ _ _ _ (p .0) (p .1 .0) (omega (arith, busy .if1 .left)),
       p .1 .0 .sliced (D .robin) .some,
     )
 
@@ -83,13 +79,9 @@ returns-3 c =
 
 give-leg-requires-2 : tie.Need-give-leg-requires-2
 give-leg-requires-2 c κs =
-    let p = c .before .before .before .before .before .before .before .before .before .before .pre in (
-      p .0,
-      (
-        p .1 .0,
-        (p .1 .1 .0, (p .1 .1 .1, omega (arith, c .before .before .before .before .before .before .before .before .if1 .left))),
-      ),
-    )
+    let busy = c .before .before .before .before .before .before .before .before in
+    let p = busy .before .before .pre in
+    (p .0, (p .1 .0, (p .1 .1 .0, (p .1 .1 .1, omega (arith, busy .if1 .left)))))
 
 returns-4 : tie.Need-returns-4
 returns-4 c = c .give-leg2 .ensures
@@ -98,11 +90,11 @@ pub step-spec : {M : Type 1} → statement M
 step-spec =
     tie.close
     (tie.spec
-    rested-requires
+    (λ c κs. search needs)
     returns
     give-leg-requires
     returns-2
-    slice-due-requires
+    (λ c κs. search needs)
     next-leg-requires
     given-to-requires
     served-requires

@@ -13,9 +13,6 @@ returns-2 : tie.Need-returns-2
 unfolding turnedTo
 returns-2 c = simp (ne-eqb _ _ (c .before .before .before .if1 .left), ne-eqb _ _ (c .if2 .taken))
 
-add-next : tie.Need-add-next
-add-next c = search needs
-
 returns-3 : tie.Need-returns-3
 unfolding turnedTo
 returns-3 c =
@@ -35,4 +32,4 @@ returns-4 c =
     )
 
 pub turned-spec : {M : Type 1} → statement M
-turned-spec = tie.close (tie.spec returns returns-2 add-next returns-3 returns-4)
+turned-spec = tie.close (tie.spec returns returns-2 (λ c. search needs) returns-3 returns-4)

@@ -15,15 +15,6 @@ same c = straight-queued (c .before .before .args .s) (c .before .before .args .
 room : (c : tie.After-straightened) → c .straightened .result .queued < 32
 room c = omega (arith, same c, c .before .before .pre .1 .0)
 
-mul-owed : tie.Need-mul-owed
-mul-owed c = search needs
-
-element-write-owed : tie.Need-element-write-owed
-element-write-owed c = search needs
-
-straightened-requires : tie.Need-straightened-requires
-straightened-requires c κs = search needs
-
 element-write-queue : tie.Need-element-write-queue
 element-write-queue c = room c
 
@@ -59,9 +50,9 @@ pub joined-spec : {M : Type 1} → statement M
 joined-spec =
     tie.close
     (tie.spec
-    mul-owed
-    element-write-owed
-    straightened-requires
+    (λ c. search needs)
+    (λ c. search needs)
+    (λ c κs. search needs)
     element-write-queue
     head-with-requires
     add-t11

@@ -22,9 +22,6 @@ returns c =
           ∙ take-append-drop (k .queued) q),
     )
 
-straight-requires : tie.Need-straight-requires
-straight-requires c κs = search needs
-
 returns-2 : tie.Need-returns-2
 unfolding straightTo
 returns-2 c =
@@ -38,4 +35,4 @@ returns-2 c =
     )
 
 pub straightened-spec : {M : Type 1} → statement M
-straightened-spec = tie.close (tie.spec returns straight-requires returns-2)
+straightened-spec = tie.close (tie.spec returns (λ c κs. search needs) returns-2)
