@@ -1,16 +1,16 @@
--- Laws of what a block has to be. In order: the number of records, fitting or not; the parts of the layout.
+-- Laws of what a block has to be. In order: the number of records, fitting or not; records counted block by block.
 -- Assumes nothing.
 use Prim.Native.Nat.{ℕ, zero, suc, _+_, _*_, _-_, _≤_, _<_}
 use native.Mathlib.Omega.{arith}
-use mathlib.Core.Path.{_≡_, refl, sym, ap, _∙_}
-use mathlib.Core.Bool.{Bool, true, false, _&&_, _||_, false≢true}
+use mathlib.Core.Path.{_≡_, refl, ap}
+use mathlib.Core.Bool.{true, false, _&&_, _||_, false≢true}
 use mathlib.Core.List.{List}
 use lib.Dec.{eqb, leb}
-use borrow.Author.Tests.{eqb-true, eq-eqb, ne-eqb, le-leb, leb-true}
+use borrow.Author.Tests.{eq-eqb, ne-eqb, le-leb, leb-true}
 use Rattle.lists.specs.Lists.{within}
-use Rattle.lists.proofs.Testing.{tested, equal-or, and-true, or-false, within-true, within-holds, within-below}
+use Rattle.lists.proofs.Testing.{equal-or, and-true, within-true, within-holds, within-below}
 use Rattle.lists.proofs.Testing.{within-above}
-use Rattle.judging.specs.Blocks.{blocks, block, count, recordsTo, countFits, unusedZero, layoutFits}
+use Rattle.judging.specs.Blocks.{block, count, recordsTo, countFits}
 
 -- ---- the number of records
 

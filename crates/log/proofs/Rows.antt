@@ -1,6 +1,5 @@
 -- Laws of the rows of a log that reads. In order: the records of one block; the rows' number; where row i stands; the
--- rows
--- as the code reads them, and as the table takes them; a block's records. Assumes nothing.
+-- rows as the code reads them, and as the table takes them; a block's records. Assumes nothing.
 use Prim.Native.Nat.{ℕ, zero, suc, _+_, _*_, _-_, _/_, _%_, _≤_, _<_}
 use native.Mathlib.Omega.{arith}
 use mathlib.Core.Path.{_≡_, refl, sym, ap, _∙_}
@@ -18,8 +17,7 @@ use Rattle.rule.specs.Table.{rows, columnRefusal}
 use Rattle.judging.specs.Blocks.{blocks, block, count, recordsTo}
 use Rattle.judging.specs.Log.{Reads}
 use Rattle.log.specs.Records.{entries, columnFrom, column, askedTimes, rowList, rowAt}
-use Rattle.log.specs.declared.Record.{Record}
-use Rattle.judging.proofs.Blocks.{Counted, records-zero, records-more}
+use Rattle.judging.proofs.Blocks.{records-zero, records-more}
 use Rattle.judging.proofs.Accepted.{accepted-sized, accepted-counted, accepted-last, accepted-most, lt-of-ne}
 use Rattle.judging.proofs.Accepted.{word-block}
 

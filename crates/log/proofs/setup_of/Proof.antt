@@ -28,7 +28,8 @@ returns c =
     let start = words .before .before .before .before .before in
     let e = asked-equal (words .before .before .word-at .ensures) (words .before .word-at2 .ensures)
     (words .word-at3 .ensures) in
-    judged-accepted (subst (λ (p : Setup). Judges p (c .before .judged-setup .result)) e (c .before .judged-setup .ensures))
+    let judged = c .before .judged-setup in
+    judged-accepted (subst (λ (p : Setup). Judges p (judged .result)) e (judged .ensures))
     (accepted-setup _ (start .pre))
 
 pub setup-of-spec : {M : Type 1} → statement M
