@@ -1,5 +1,5 @@
--- Laws of the places of a log that reads. In order: whether a record is at a place; what is taken there; reading begins
--- at a place that is reached, and goes on to such a place. Assumes nothing.
+-- Laws of the places of a log that reads. In order: whether a record is at a place; what is taken there; reading
+-- begins at a place that is reached, and goes on to such a place. Assumes nothing.
 use Prim.Native.Nat.{ℕ, _+_, _*_, _-_, _≤_, _<_}
 use native.Mathlib.Omega.{arith}
 use mathlib.Core.Path.{_≡_, refl, ap, _∙_}
@@ -74,26 +74,32 @@ pub taken-none : (log : List ℕ) (b r : ℕ) → hasRow log b r ≡ false
 unfolding takenAt
 taken-none log b r h = rw h
 
-module _ (log : List ℕ) (b r : ℕ) (low : 0 < b) (s : Reached log b r) (h : rowNumber b r < length (askedTimes log))
-  where
-    pub row-taken : (t k m : ℕ) → t ≡ word log (512 * b + 8 + 12 * r) → k ≡ word log (512 * b + 8 + 12 * r + 4)
-        → m ≡ word log (512 * b + 8 + 12 * r + 8)
-        → record { time = t; task = k; amount = m } ≡ rowAt log (rowNumber b r)
-    row-taken t k m et ek em =
-        row-here log (s .reads) (rowNumber b r) t k m h
-        (et ∙ ap (word log) (omega (arith, s .few)))
-        (ek ∙ ap (word log) (omega (arith, s .few)))
-        (em ∙ ap (word log) (omega (arith, s .few)))
+-- the words x there are a row
+pub record RowRead (log : List ℕ) (b r : ℕ) (x : Record) : Type 0 where
+  pub has : hasRow log b r ≡ true
+  pub row : x ≡ rowAt log (rowNumber b r)
 
-    pub taken-last : (x : Record) → x ≡ rowAt log (rowNumber b r) → r ≡ 40
-        → record { found = Row x; block = b + 1; «record» = 0 } ≡ takenAt log b r
-    unfolding takenAt
-    taken-last x e q = rw (e, has-row-true log b r low h, eq-eqb r 40 q)
+pub row-read : (log : List ℕ) (b r t k m : ℕ) → 0 < b → Reached log b r → rowNumber b r < length (askedTimes log)
+    → t ≡ word log (512 * b + 8 + 12 * r) → k ≡ word log (512 * b + 8 + 12 * r + 4)
+    → m ≡ word log (512 * b + 8 + 12 * r + 8) → RowRead log b r (record { time = t; task = k; amount = m })
+row-read log b r t k m low s h et ek em =
+    record {
+      has = has-row-true log b r low h;
+      row =
+          row-here log (s .reads) (rowNumber b r) t k m h
+          (et ∙ ap (word log) (omega (arith, s .few)))
+          (ek ∙ ap (word log) (omega (arith, s .few)))
+          (em ∙ ap (word log) (omega (arith, s .few)));
+    }
 
-    pub taken-next : (x : Record) → x ≡ rowAt log (rowNumber b r) → (r ≡ 40 → ⊥)
-        → record { found = Row x; block = b; «record» = r + 1 } ≡ takenAt log b r
-    unfolding takenAt
-    taken-next x e q = rw (e, has-row-true log b r low h, ne-eqb r 40 q)
+module _ {log : List ℕ} {b r : ℕ} {x : Record} (read : RowRead log b r x) where
+  pub taken-last : r ≡ 40 → record { found = Row x; block = b + 1; «record» = 0 } ≡ takenAt log b r
+  unfolding takenAt
+  taken-last e = rw (read .row, read .has, eq-eqb r 40 e)
+
+  pub taken-next : (r ≡ 40 → ⊥) → record { found = Row x; block = b; «record» = r + 1 } ≡ takenAt log b r
+  unfolding takenAt
+  taken-next e = rw (read .row, read .has, ne-eqb r 40 e)
 
 -- ---- the places that reading reaches
 

@@ -93,8 +93,8 @@ module _ (log : List ℕ) (reads : Reads log) where
         from-rows (suc n) j k (omega arith),
       )
 
--- "knows its next record; after the last it says that there is none, and stays": from an opening all rows of the log are
--- found, in their order, and after them no more, however often
+-- "knows its next record; after the last it says that there is none, and stays": from an opening all rows of the log
+-- are found, in their order, and after them no more, however often
 pub nexts-all : (log : RefT (List ℕ)) → Reads (now log) → (k : ℕ)
     → nexts (opened log) (length (rowList (now log)) + k) ≡ foundRows (rowList (now log)) ++ replicate k End
 nexts-all log reads k =

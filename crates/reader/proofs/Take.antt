@@ -1,7 +1,7 @@
--- What the walks over a `Reader` share. In order: the types of the struct and of the slice; a core call, which takes the
--- struct's fields; what the struct owns taken apart for such a call; such a call proved by a walk; the struct put
--- together at two other numbers; the parts of what `take_at` returns. Assumes nothing.
-use mathlib.Core.Path.{_≡_, refl}
+-- What the walks over a `Reader` share. In order: the types of the struct and of the slice; a core call, which takes
+-- the struct's fields; what the struct owns taken apart for such a call; such a call proved by a walk; the struct put
+-- together at two other numbers; what the core calls return. Assumes nothing.
+use mathlib.Core.Path.{_≡_, refl, subst}
 use Prim.Native.Nat.{ℕ, _<_, _^_}
 use mathlib.Core.List.{List, [], _∷_}
 use lib.ListN.{length}
@@ -12,6 +12,7 @@ use base.Logic.{SProp, ent, sep, snd∗, exE}
 use base.Fml.{Lft, Share, Fml, ftrue, flft}
 use prog.Wp.{Heap, WpFn, Tables}
 use ghost.Atoms.{Atoms, sem}
+use contract.Lifetimes.{Lfts}
 use contract.Monad.{fact}
 use types.Kit.{suffices, join, Given, ‵, raw, _⊛_, given, ⋆, _$_, _∵_, !, qed, by, move, drop, use1, use2, split}
 use types.Kit.{learn, fjoin, frame, done}
@@ -21,10 +22,9 @@ use sound.WpLaws.{WpFn-mono}
 use denote.Plain.{uint-vals, uint-tells, uint-makes}
 use denote.Builtin.{u8, usize, SliceRefOf}
 use denote.Ref.{RefT, NamedLft, now}
-use denote.Signature.{Signature, plain}
+use denote.Signature.{Signature, Slot, plain}
 use denote.Slice.{sliceVal, ShrSlice, slice-vals, shr-slice-tells}
 use denote.Steps.{owned, nothing}
-use denote.Enum.Laws as EL
 use denote.Struct.Laws as LL
 use denote.Struct.Rest.{all-own, ownAt, rest, own-open, own-out, own-put}
 use denote.Exit.{yes}
@@ -37,10 +37,11 @@ use denote.Triple.Walked.{walked, walk-meets}
 use Rattle.places.specs.Places.{takenAt, Stands}
 use Rattle.reader.specs.Reading.{Standing}
 use Rattle.reader.specs.declared.Reader.{Reader}
+use Rattle.log.specs.declared.Found.{Found}
 use Rattle.places.specs.declared.Taken.{Taken}
 use Rattle.reader.proofs.Reader as T
 use Rattle.reader.proofs.Reader.Laws as T′
-use Rattle.walk_laws.proofs.Data.{Data, struct}
+use Rattle.walk_laws.proofs.Data.{Data, struct, enum}
 use Rattle.log.proofs.Found as S
 use Rattle.log.proofs.Found.Laws as S′
 use Rattle.places.proofs.Taken as D
@@ -52,17 +53,17 @@ B α = T.the-row α
 abbrev pub slice-of : RefT (List ℕ) → Val
 slice-of s = sliceVal (s .ptr) (length (s .now))
 
+-- a signature with one lifetime
+abbrev pub lasting : List (Slot 1) → (Lfts 1 → RattleType) → Signature
+lasting params R = record { lifetimes = 1; outlives = []; params = params; result = plain R }
+
 -- ---- a core call: `fn g(log: &[u8], block: usize, record: usize) -> R`
 module _ (R : Data) (Said : List ℕ → ℕ → ℕ → R .type .Denot → Type 0) where
   abbrev pub core : Signature
   core =
-      record {
-        lifetimes = 1;
-        outlives = [];
-        params =
-            SliceRefOf (0 ∷ []) tt (plain (λ κs. u8)) (λ κs. tt) ∷ plain (λ κs. usize) ∷ plain (λ κs. usize) ∷ [];
-        result = plain (λ κs. R .type);
-      }
+      lasting
+      (SliceRefOf (0 ∷ []) tt (plain (λ κs. u8)) (λ κs. tt) ∷ plain (λ κs. usize) ∷ plain (λ κs. usize) ∷ [])
+      (λ κs. R .type)
 
   abbrev pub core-ended : Ended
   core-ended = record { signature = core; kept = (yes, (yes, (yes, tt))) }
@@ -214,16 +215,27 @@ module _ {M : Type 1} (𝓤 : URA M) (H : Heap 𝓤) (A : Atoms 𝓤) (W : Given
       by ! (own-put 𝓤 H A W (T.the-type α) (T′.the-laws α) 2 (d .log, (b, (d .«record», tt))) r
       (T′.lowered (at-place b (d .«record»))))
 
--- ---- `take_at` and what it returns
+-- ---- what the core calls return
 
+-- what is known at the machine value that a call gave is known at the one that the type tells
+pub known-at : (R : Data) (x : R .type .Denot) (v : Val) → Is (R .type) x (v ∷ []) → Is (R .type) x (R .val x ∷ [])
+known-at R x v is = subst (Is (R .type) x) (R .tells x (v ∷ []) is) is
+
+-- `found_at`
+abbrev pub rowS : Data
+rowS = enum S.the-type S′.the-laws S′.the-plain tt (λ x. tt) (λ x f. refl)
+
+abbrev pub Finds : List ℕ → ℕ → ℕ → Found → Type 0
+Finds log b r f = f ≡ takenAt log b r .found
+
+-- `take_at`
 abbrev pub rowD : Data
 rowD = struct D.the-type D′.the-laws D′.the-plain (λ x. tt) (λ x f. refl)
 
 abbrev pub Takes : List ℕ → ℕ → ℕ → Taken → Type 0
 Takes log b r t = t ≡ takenAt log b r
 
-pub found-is : (d : Taken) (vs : List Val) → Is D.the-row d vs → Is S.the-row (d .found)
-    (EL.vals S.the-type S′.the-laws (d .found))
+pub found-is : (d : Taken) (vs : List Val) → Is D.the-row d vs → Is S.the-row (d .found) (rowS .val (d .found) ∷ [])
 found-is d vs is = LL.owed D.the-type D′.the-laws d vs is .0
 
 pub block-fits : (d : Taken) (vs : List Val) → Is D.the-row d vs → d .block < 2 ^ 64
