@@ -16,7 +16,7 @@ use Rattle.log.specs.Records.{askedTimes, rowAt, found}
 use Rattle.log.specs.declared.Found.the-variants.{Row, End}
 use Rattle.log.specs.declared.Record.{Record}
 use Rattle.judging.proofs.Accepted.{accepted-counted, word-block}
-use Rattle.log.proofs.Rows.{column-blocks, column-most, column-some, row-here}
+use Rattle.log.proofs.Rows.{column-blocks, column-most, column-some, row-here, found-row, found-none}
 use Rattle.places.specs.declared.Taken.{Taken}
 use Rattle.places.specs.Places.{rowNumber, hasRow, takenAt, Reached, Stands, firstBlock}
 
@@ -122,7 +122,7 @@ pub record Taking (log : List ℕ) (b r n : ℕ) (t : Taken) : Type 0 where
   pub stays : length (askedTimes log) ≤ n → (t .block ≡ b) × (t .«record» ≡ r)
 
 pub taking : (log : List ℕ) (b r : ℕ) → 0 < b → Reached log b r → Taking log b r (rowNumber b r) (takenAt log b r)
-unfolding takenAt found
+unfolding takenAt
 taking log b r low s =
     let rows = length (askedTimes log) in
     let n = rowNumber b r in
@@ -133,7 +133,7 @@ taking log b r low s =
     (λ q.
     rw (le-leb 1 b low, e, eq-eqb r 40 q)
     (record {
-      finds = rw e;
+      finds = found-row log n h;
       past-zero = omega arith;
       reached = record { reads = s .reads; few = omega arith; inside = omega arith };
       goes = λ _. omega arith;
@@ -142,7 +142,7 @@ taking log b r low s =
     (λ q.
     rw (le-leb 1 b low, e, ne-eqb r 40 q)
     (record {
-      finds = rw e;
+      finds = found-row log n h;
       past-zero = low;
       reached = record { reads = s .reads; few = omega (arith, s .few); inside = omega arith };
       goes = λ _. omega arith;
@@ -152,12 +152,11 @@ taking log b r low s =
     let l = ltb-false n rows e in
     rw (le-leb 1 b low, e)
     (record {
-      finds = rw e;
+      finds = found-none log n l;
       past-zero = low;
       reached = s;
       goes = λ h. absurd (omega arith);
-      stays = λ _.
-          (refl, refl);
+      stays = λ _. (refl, refl);
     }))
 
 -- "and stays"
