@@ -110,12 +110,12 @@ module _ (R : Lfts 1 → RattleType) (Said : (κs : Lfts 1) → RefT (List ℕ) 
 
 -- ---- `open_log`
 
-abbrev pub rowO : Lfts 1 → RattleType
-rowO κs = O.the-row (namedLft 1 0 tt κs)
+abbrev pub openedRow : Lfts 1 → RattleType
+openedRow κs = O.the-row (namedLft 1 0 tt κs)
 
 abbrev pub Opens : Lfts 1 → RefT (List ℕ) → Opened → Type 0
 Opens κs s o = OpenedOn s o
 
 -- a verdict
-abbrev pub rowE : Data
-rowE = enum E.the-type E′.the-laws E′.the-plain tt (λ x. tt) (λ x f. refl)
+abbrev pub judgedData : Data
+judgedData = enum E.the-type E′.the-laws E′.the-plain tt (λ x. tt) (λ x f. refl)

@@ -222,20 +222,21 @@ pub known-at : (R : Data) (x : R .type .Denot) (v : Val) → Is (R .type) x (v �
 known-at R x v is = subst (Is (R .type) x) (R .tells x (v ∷ []) is) is
 
 -- `found_at`
-abbrev pub rowS : Data
-rowS = enum S.the-type S′.the-laws S′.the-plain tt (λ x. tt) (λ x f. refl)
+abbrev pub foundData : Data
+foundData = enum S.the-type S′.the-laws S′.the-plain tt (λ x. tt) (λ x f. refl)
 
 abbrev pub Finds : List ℕ → ℕ → ℕ → Found → Type 0
 Finds log b r f = f ≡ takenAt log b r .found
 
 -- `take_at`
-abbrev pub rowD : Data
-rowD = struct D.the-type D′.the-laws D′.the-plain (λ x. tt) (λ x f. refl)
+abbrev pub takenData : Data
+takenData = struct D.the-type D′.the-laws D′.the-plain (λ x. tt) (λ x f. refl)
 
 abbrev pub Takes : List ℕ → ℕ → ℕ → Taken → Type 0
 Takes log b r t = t ≡ takenAt log b r
 
-pub found-is : (d : Taken) (vs : List Val) → Is D.the-row d vs → Is S.the-row (d .found) (rowS .val (d .found) ∷ [])
+pub found-is : (d : Taken) (vs : List Val) → Is D.the-row d vs
+    → Is S.the-row (d .found) (foundData .val (d .found) ∷ [])
 found-is d vs is = LL.owed D.the-type D′.the-laws d vs is .0
 
 pub block-fits : (d : Taken) (vs : List Val) → Is D.the-row d vs → d .block < 2 ^ 64

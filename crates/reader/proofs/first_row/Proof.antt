@@ -46,9 +46,9 @@ use Rattle.log.proofs.Found as S
 use Rattle.log.proofs.Found.Laws as S′
 use Rattle.walk_laws.proofs.Data.{typed-at}
 use Rattle.reader.proofs.Walks.{answers, gone}
-use Rattle.reader.proofs.Take.{B, slice-of, known-at, rowS, Finds}
+use Rattle.reader.proofs.Take.{B, slice-of, known-at, foundData, Finds}
 use Rattle.reader.proofs.Slices as on
-use Rattle.reader.proofs.Slices.{rowO, Opens, rowE}
+use Rattle.reader.proofs.Slices.{openedRow, Opens, judgedData}
 use Rattle.reader.proofs.Fields as peek
 use Rattle.reader.proofs.Steps.{opened-stands}
 use Rattle.reader.proofs.open_log.Symbol as opens-def
@@ -59,15 +59,15 @@ use Rattle.reader.proofs.first_row.Key as key
 use Rattle.reader.proofs.first_row.Statement as stated
 use Rattle.reader.proofs.first_row.Code as code
 
-abbrev rowF : Lfts 1 → RattleType
-rowF κs = F.the-row
+abbrev firstRow : Lfts 1 → RattleType
+firstRow κs = F.the-row
 
 abbrev Firsts : Lfts 1 → RefT (List ℕ) → First → Type 0
 Firsts κs s f = FirstOf (now s) f
 
 -- what is known of the parts of an opening
 verdict-is : (α : NamedLft) (o : Opened) (vs : List Val) → Is (O.the-row α) o vs
-    → Is (rowE .type) (o .verdict) (rowE .val (o .verdict) ∷ [])
+    → Is (judgedData .type) (o .verdict) (judgedData .val (o .verdict) ∷ [])
 verdict-is α o vs is = LL.owed (O.the-type α) (O′.the-laws α) o vs is .0
 
 reader-is : (α : NamedLft) (o : Opened) (vs : List Val) → Is (O.the-row α) o vs
@@ -87,11 +87,11 @@ module _ {M : Type 1} (𝓤 : URA M) (H : Heap 𝓤) (A : Atoms 𝓤) (W : Given
   stands-of e = subst Standing (sym e) (opened-stands s)
 
   -- the calls, and what is made of their answers
-  abbrev opens : on.On rowO Opens 𝓤 H A .Ghost
-  opens = on.to rowO Opens 𝓤 H A W κ q s
+  abbrev opens : on.On openedRow Opens 𝓤 H A .Ghost
+  opens = on.to openedRow Opens 𝓤 H A W κ q s
 
-  abbrev looks : Reader → peek.Of rowS Finds 𝓤 H A .Ghost
-  looks d = peek.to rowS Finds 𝓤 H A W κ q d
+  abbrev looks : Reader → peek.Of foundData Finds 𝓤 H A .Ghost
+  looks d = peek.to foundData Finds 𝓤 H A W κ q d
 
   abbrev made : Opened → Found → First
   made o t = record { verdict = o .verdict; found = t }
@@ -99,24 +99,24 @@ module _ {M : Type 1} (𝓤 : URA M) (H : Heap 𝓤) (A : Atoms 𝓤) (W : Given
   made-is : (o : Opened) (t : Found) (u v : Val) → Is (O.the-row α) o (u ∷ []) → Is S.the-row t (v ∷ [])
       → Is F.the-row (made o t) (LL.vals F.the-type F′.the-laws (made o t))
   made-is o t u v is isT =
-      LL.owes F.the-type F′.the-laws (made o t) (verdict-is α o _ is, (known-at rowS t v isT, tt))
+      LL.owes F.the-type F′.the-laws (made o t) (verdict-is α o _ is, (known-at foundData t v isT, tt))
 
   module _ (C : Calls 𝓤 H) (Λ : Loops 𝓤 H) (fm : FmC 𝓤 H (W .laws) C)
-      (known-opens : Triple 𝓤 (C opens-def.name) (on.On rowO Opens 𝓤 H A))
-      (known-peek : Triple 𝓤 (C peek-def.name) (peek.Of rowS Finds 𝓤 H A)) where
-    walk : ent 𝓤 (on.Enters rowF Firsts 𝓤 H A W κ q s)
-        (WpFn 𝓤 H C Λ code.function (slice-of s ∷ []) (on.Post rowF Firsts 𝓤 H A W κ q s))
+      (known-opens : Triple 𝓤 (C opens-def.name) (on.On openedRow Opens 𝓤 H A))
+      (known-peek : Triple 𝓤 (C peek-def.name) (peek.Of foundData Finds 𝓤 H A)) where
+    walk : ent 𝓤 (on.Enters firstRow Firsts 𝓤 H A W κ q s)
+        (WpFn 𝓤 H C Λ code.function (slice-of s ∷ []) (on.Post firstRow Firsts 𝓤 H A W κ q s))
     walk =
-        qed W (raw (on.Enters rowF Firsts 𝓤 H A W κ q s) ∷ []) ∵
+        qed W (raw (on.Enters firstRow Firsts 𝓤 H A W κ q s) ∷ []) ∵
         enter ! C Λ code.function (slice-of s ∷ []) _ $
         alloc1 ! (λ l₀. alloc1 ! (λ l₁. alloc1 ! (λ l₂. alloc1 ! (λ l₃. alloc1 ! (λ l₄. alloc1 ! (λ l₅. alloc0 ! $
         params1 ! $ pass1 ! (init ! 8 refl (shr-slice-lawful 𝓤 H A W (named 0) κ u8 .typed s (slice-of s ∷ []) p .0)) $
         pass0 ! $
-        move ! (12 ∷ []) $ use1 W (raw (on.On rowO Opens 𝓤 H A .pre opens) ⊛ ‵ (on.Own κ s))
-        (on.goes rowO Opens 𝓤 H A W κ q s) $ split ! $
-        calls-at ! fm (on.On rowO Opens 𝓤 H A) known-opens opens
+        move ! (12 ∷ []) $ use1 W (raw (on.On openedRow Opens 𝓤 H A .pre opens) ⊛ ‵ (on.Own κ s))
+        (on.goes openedRow Opens 𝓤 H A W κ q s) $ split ! $
+        calls-at ! fm (on.On openedRow Opens 𝓤 H A) known-opens opens
         (and-then ! (load ! (from ! (stop !)) (look ! 10 refl)) (no-more !)) (λ u.
-        answers ! tt (O.the-row α) κ q (OpenedOn s) (on.said rowO Opens 𝓤 H A W κ q s) u (λ o e is.
+        answers ! tt (O.the-row α) κ q (OpenedOn s) (on.said openedRow Opens 𝓤 H A W κ q s) u (λ o e is.
         -- [what the opening owns; the token; what s owns; _5; …; _4; …; _3; …; _2; …; _1; …; room for _0; …]
         land ! (from ! (stop !))
         (init ! 9 refl (LL.lawful (O.the-type αᵉ) (O′.the-laws αᵉ) 𝓤 H A W .typed o _ is .0)) $
@@ -125,7 +125,7 @@ module _ {M : Type 1} (𝓤 : URA M) (H : Heap 𝓤) (A : Atoms 𝓤) (W : Given
         rewrite ! 9 (λ (w : Val). ‵ (fat fullShare (O′.mir erased) l₂ 0 w))
         (ap only (LL.tells (O.the-type α) (O′.the-laws α) o (u ∷ []) is)) refl $
         assigns ! (of-opd ! (load ! (from ! (fld ! refl (stop !))) (look-in ! 9 (sub ! 0 refl (whole !)))))
-        (from ! (stop !)) (init ! 7 refl (rowE .typed 𝓤 H A W (o .verdict) (verdict-is α o _ is))) $
+        (from ! (stop !)) (init ! 7 refl (judgedData .typed 𝓤 H A W (o .verdict) (verdict-is α o _ is))) $
         assigns ! (of-opd ! (load ! (from ! (fld ! refl (stop !))) (look-in ! 9 (sub ! 1 refl (whole !)))))
         (from ! (stop !))
         (init ! 3 refl (LL.lawful (T.the-type αᵉ) (T′.the-laws αᵉ) 𝓤 H A W .typed (o .reader) _ (reader-is α o _ is)
@@ -137,16 +137,16 @@ module _ {M : Type 1} (𝓤 : URA M) (H : Heap 𝓤) (A : Atoms 𝓤) (W : Given
         (LL.val (O.the-type α) (O′.the-laws α) o)) $
         learn ! (λ _.
         fsplit ! $ drop ! $ fsplit ! $ move ! (0 ∷ 2 ∷ []) $
-        use2 W (raw (peek.Of rowS Finds 𝓤 H A .pre (looks (o .reader))))
-        (peek.asked rowS Finds 𝓤 H A W κ q (o .reader) (stands-of (e .reader))) $
+        use2 W (raw (peek.Of foundData Finds 𝓤 H A .pre (looks (o .reader))))
+        (peek.asked foundData Finds 𝓤 H A W κ q (o .reader) (stands-of (e .reader))) $
         -- [what `peek` asks; true; what s owns; _5; …; _4; …; _3; …; _2; …; _1; …; room for _0; …]
-        calls-at ! fm (peek.Of rowS Finds 𝓤 H A) known-peek (looks (o .reader))
+        calls-at ! fm (peek.Of foundData Finds 𝓤 H A) known-peek (looks (o .reader))
         (and-then ! (load ! (from ! (stop !)) (look ! 3 refl)) (no-more !)) (λ v.
         answers ! tt S.the-row κ q (λ (t : Found). t ≡ takenBy (o .reader) .found)
-        (peek.said rowS Finds 𝓤 H A W κ q (o .reader)) v (λ t e′ isT. drop ! $
+        (peek.said foundData Finds 𝓤 H A W κ q (o .reader)) v (λ t e′ isT. drop ! $
         -- [the token; true; what s owns; _5; …; room for _4; …; _3; …; _2; …; _1; …; room for _0; …]
-        land ! (from ! (stop !)) (init ! 5 refl (typed-at rowS 𝓤 H A W t v isT)) $
-        rewrite ! 5 (λ (w : Val). ‵ (fat fullShare S′.mir l₄ 0 w)) (ap only (rowS .tells t (v ∷ []) isT)) refl $
+        land ! (from ! (stop !)) (init ! 5 refl (typed-at foundData 𝓤 H A W t v isT)) $
+        rewrite ! 5 (λ (w : Val). ‵ (fat fullShare S′.mir l₄ 0 w)) (ap only (foundData .tells t (v ∷ []) isT)) refl $
         assigns ! (agg ! (and-then ! (load ! (from ! (stop !)) (look ! 7 refl))
         (and-then ! (load ! (from ! (stop !)) (look ! 5 refl)) (no-more !)))) (from ! (stop !))
         (init ! 13 refl
@@ -156,7 +156,7 @@ module _ {M : Type 1} (𝓤 : URA M) (H : Heap 𝓤) (A : Atoms 𝓤) (W : Given
         owned ! F.the-row (Is F.the-row) (LL.makes F.the-type F′.the-plain 𝓤 H A) (made o t) _
         (made-is o t u v is isT) $
         keep ! (0 ∷ 1 ∷ 3 ∷ []) $
-        by ! (on.exits rowF Firsts 𝓤 H A W κ q s (made o t) _
+        by ! (on.exits firstRow Firsts 𝓤 H A W κ q s (made o t) _
         record { verdict = e .verdict; found = e′ ∙ ap (λ (r : Reader). takenBy r .found) (e .reader) }))))))))))))
 
 pub first-row-spec : {M : Type 1} → stated.statement M
@@ -164,11 +164,11 @@ unfolding code.routine tablesOf
 first-row-spec 𝓤 H 𝓜 𝓖 𝓡 =
     let W : Given 𝓤 H (𝓖 .A) = givenOf 𝓤 H 𝓜 𝓖 in
     let 𝓣 : Tables 𝓤 H = tablesOf 𝓤 H 𝓜 (tables 𝓤 H 𝓜 𝓡 code.env) in
-    entered 𝓤 H (on.On rowF Firsts 𝓤 H (𝓖 .A)) (tables 𝓤 H 𝓜 𝓡 code.env .C) (tables 𝓤 H 𝓜 𝓡 code.env .Λ) key.name
+    entered 𝓤 H (on.On firstRow Firsts 𝓤 H (𝓖 .A)) (tables 𝓤 H 𝓜 𝓡 code.env .C) (tables 𝓤 H 𝓜 𝓡 code.env .Λ) key.name
     code.function (code.unfolded 𝓤 H 𝓜 𝓡)
-    (on.by-walk rowF Firsts 𝓤 H (𝓖 .A) W 𝓣 code.function
+    (on.by-walk firstRow Firsts 𝓤 H (𝓖 .A) W 𝓣 code.function
     (λ κ q s p. walk 𝓤 H (𝓖 .A) W κ q s p (𝓣 .C) (𝓣 .Λ) (fmOf 𝓤 H (W .laws) 𝓣)
-    (cited 𝓤 H (on.On rowO Opens 𝓤 H (𝓖 .A)) 𝓜 𝓡 code.env opens-def.name opens-def.routine
+    (cited 𝓤 H (on.On openedRow Opens 𝓤 H (𝓖 .A)) 𝓜 𝓡 code.env opens-def.name opens-def.routine
     code.calls-reader·open-log (opens-thm.met 𝓤 H 𝓜 𝓖 𝓡))
-    (cited 𝓤 H (peek.Of rowS Finds 𝓤 H (𝓖 .A)) 𝓜 𝓡 code.env peek-def.name peek-def.routine
+    (cited 𝓤 H (peek.Of foundData Finds 𝓤 H (𝓖 .A)) 𝓜 𝓡 code.env peek-def.name peek-def.routine
     code.calls-reader·peek (peek-thm.met 𝓤 H 𝓜 𝓖 𝓡))))

@@ -43,7 +43,8 @@ use Rattle.reader.proofs.Reader.Laws as T′
 use Rattle.walk_laws.proofs.Calling.{over}
 use Rattle.reader.proofs.Walks.{answers, gone}
 use Rattle.reader.proofs.Take.{B, slice-of}
-use Rattle.reader.proofs.Slices.{Own, On, Enters, Post, to, goes, said, exits, by-walk, rowO, Opens, rowE}
+use Rattle.reader.proofs.Slices.{Own, On, Enters, Post, to, goes, said, exits, by-walk, openedRow, Opens}
+use Rattle.reader.proofs.Slices.{judgedData}
 use Rattle.walk_laws.proofs.Data.{Data, struct, typed-at}
 use Rattle.places.proofs.start_of.Symbol as start-def
 use Rattle.places.proofs.start_of.Met.{met}
@@ -51,11 +52,11 @@ use Rattle.reader.proofs.open_log.Key.{name}
 use Rattle.reader.proofs.open_log.Statement as stated
 use Rattle.reader.proofs.open_log.Code as code
 
-abbrev rowJ : Data
-rowJ = struct J.the-type J′.the-laws J′.the-plain (λ x. tt) (λ x f. refl)
+abbrev startData : Data
+startData = struct J.the-type J′.the-laws J′.the-plain (λ x. tt) (λ x f. refl)
 
 verdict-is : (j : Start) (vs : List Val) → Is J.the-row j vs
-    → Is (rowE .type) (j .verdict) (rowE .val (j .verdict) ∷ [])
+    → Is (judgedData .type) (j .verdict) (judgedData .val (j .verdict) ∷ [])
 verdict-is j vs is = LL.owed J.the-type J′.the-laws j vs is .0
 
 block-is : (j : Start) (vs : List Val) → Is J.the-row j vs → Is usize (j .block) (vint w64 (j .block) ∷ [])
@@ -95,7 +96,7 @@ module _ {M : Type 1} (𝓤 : URA M) (H : Heap 𝓤) (A : Atoms 𝓤) (W : Given
   -- whole
   made-owns : (j : Start) (vs : List Val) → Is J.the-row j vs
       → ent 𝓤 (sem 𝓤 H A (Own κ s))
-      (sem 𝓤 H A (rowO (κ, tt) .own (made j) (LL.vals (O.the-type α) (O′.the-laws α) (made j))))
+      (sem 𝓤 H A (openedRow (κ, tt) .own (made j) (LL.vals (O.the-type α) (O′.the-laws α) (made j))))
   made-owns j vs is =
       qed W (‵ (Own κ s) ∷ []) ∵
       nothing ! $ owned ! usize (Is usize) (uint-makes 𝓤 H A W w64) 0 _ (refl, lit< tt) $ fjoin ! $
@@ -104,15 +105,16 @@ module _ {M : Type 1} (𝓤 : URA M) (H : Heap 𝓤) (A : Atoms 𝓤) (W : Given
       use1 W (‵ (B α .own (made j .reader) (T′.lowered (made j .reader) ∷ [])))
       (own-shut 𝓤 H A W (T.the-type α) (T′.the-laws α) (s, (j .block, (0, tt)))) $
       nothing ! $ move ! (1 ∷ 0 ∷ []) $ fjoin ! $
-      owned ! (rowE .type) (Is (rowE .type)) (rowE .makes 𝓤 H A W) (j .verdict) _ (verdict-is j vs is) $ fjoin ! $
+      owned ! (judgedData .type) (Is (judgedData .type)) (judgedData .makes 𝓤 H A W) (j .verdict) _
+      (verdict-is j vs is) $ fjoin ! $
       by ! (own-shut 𝓤 H A W (O.the-type α) (O′.the-laws α) (j .verdict, (made j .reader, tt)))
 
   module _ (C : Calls 𝓤 H) (Λ : Loops 𝓤 H) (fm : FmC 𝓤 H (W .laws) C)
       (known : Triple 𝓤 (C start-def.name) (On startRow Starts 𝓤 H A)) where
-    walk : ent 𝓤 (Enters rowO Opens 𝓤 H A W κ q s)
-        (WpFn 𝓤 H C Λ code.function (slice-of s ∷ []) (Post rowO Opens 𝓤 H A W κ q s))
+    walk : ent 𝓤 (Enters openedRow Opens 𝓤 H A W κ q s)
+        (WpFn 𝓤 H C Λ code.function (slice-of s ∷ []) (Post openedRow Opens 𝓤 H A W κ q s))
     walk =
-        qed W (raw (Enters rowO Opens 𝓤 H A W κ q s) ∷ []) ∵
+        qed W (raw (Enters openedRow Opens 𝓤 H A W κ q s) ∷ []) ∵
         enter ! C Λ code.function (slice-of s ∷ []) _ $
         alloc1 ! (λ l₀. alloc1 ! (λ l₁. alloc1 ! (λ l₂. alloc1 ! (λ l₃. alloc0 ! $ params1 ! $
         pass1 ! (init ! 4 refl (shr-slice-lawful 𝓤 H A W (named 0) κ u8 .typed s (slice-of s ∷ []) p .0)) $ pass0 ! $
@@ -122,8 +124,8 @@ module _ {M : Type 1} (𝓤 : URA M) (H : Heap 𝓤) (A : Atoms 𝓤) (W : Given
         (and-then ! (load ! (from ! (stop !)) (look ! 6 refl)) (no-more !)) (λ u.
         answers ! tt J.the-row κ q (Starts (κ, tt) s) (said startRow Starts 𝓤 H A W κ q s) u (λ j e is. drop ! $
         -- [the token; what s owns; room for _3; …; room for _2; …; _1; …; room for _0; …]
-        land ! (from ! (stop !)) (init ! 4 refl (typed-at rowJ 𝓤 H A W j u is)) $
-        rewrite ! 4 (λ (w : Val). ‵ (fat fullShare J′.mir l₂ 0 w)) (ap only (rowJ .tells j (u ∷ []) is)) refl $
+        land ! (from ! (stop !)) (init ! 4 refl (typed-at startData 𝓤 H A W j u is)) $
+        rewrite ! 4 (λ (w : Val). ‵ (fat fullShare J′.mir l₂ 0 w)) (ap only (startData .tells j (u ∷ []) is)) refl $
         assigns ! (agg ! (and-then ! (load ! (from ! (stop !)) (look ! 6 refl))
         (and-then ! (load ! (from ! (fld ! refl (stop !))) (look-in ! 4 (sub ! 1 refl (whole !))))
         (and-then ! (lit ! tt) (no-more !))))) (from ! (stop !))
@@ -143,10 +145,10 @@ module _ {M : Type 1} (𝓤 : URA M) (H : Heap 𝓤) (A : Atoms 𝓤) (W : Given
         -- [the token; what s owns]
         move ! (1 ∷ []) $ use1 W (‵ (Own κ s) ⊛ ‵ (Own κ s))
         (shr-slice-copy 𝓤 H A W (named 0) κ u8 .twice s (slice-of s ∷ [])) $ split ! $
-        use1 W (‵ (rowO (κ, tt) .own (made j) (LL.vals (O.the-type α) (O′.the-laws α) (made j))))
+        use1 W (‵ (openedRow (κ, tt) .own (made j) (LL.vals (O.the-type α) (O′.the-laws α) (made j))))
         (made-owns j (u ∷ []) is) $
         keep ! (0 ∷ 2 ∷ 1 ∷ []) $
-        by ! (exits rowO Opens 𝓤 H A W κ q s (made j) _ (record {
+        by ! (exits openedRow Opens 𝓤 H A W κ q s (made j) _ (record {
           verdict = e .verdict;
           reader = ap (λ (b : ℕ). record { log = s; block = b; «record» = 0 }) (e .block);
         }))))))))
@@ -154,7 +156,7 @@ module _ {M : Type 1} (𝓤 : URA M) (H : Heap 𝓤) (A : Atoms 𝓤) (W : Given
 pub open-log-spec : {M : Type 1} → stated.statement M
 unfolding code.routine
 open-log-spec 𝓤 H 𝓜 𝓖 𝓡 =
-    over 𝓤 H 𝓜 𝓡 code.env (On rowO Opens 𝓤 H (𝓖 .A)) (On startRow Starts 𝓤 H (𝓖 .A)) name code.function
+    over 𝓤 H 𝓜 𝓡 code.env (On openedRow Opens 𝓤 H (𝓖 .A)) (On startRow Starts 𝓤 H (𝓖 .A)) name code.function
     (code.unfolded 𝓤 H 𝓜 𝓡) start-def.name start-def.routine code.calls-places·start-of (met 𝓤 H 𝓜 𝓖 𝓡)
-    (λ 𝓣 known. by-walk rowO Opens 𝓤 H (𝓖 .A) (givenOf 𝓤 H 𝓜 𝓖) 𝓣 code.function
+    (λ 𝓣 known. by-walk openedRow Opens 𝓤 H (𝓖 .A) (givenOf 𝓤 H 𝓜 𝓖) 𝓣 code.function
     (λ κ q s p. walk 𝓤 H (𝓖 .A) (givenOf 𝓤 H 𝓜 𝓖) κ q s p (𝓣 .C) (𝓣 .Λ) (fmOf 𝓤 H (givenOf 𝓤 H 𝓜 𝓖 .laws) 𝓣) known))

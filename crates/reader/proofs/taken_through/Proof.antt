@@ -1,6 +1,7 @@
 -- `reader::taken_through` meets its contract: a walk of its MIR, by hand. A reader is made in a local and lent to
--- `next`, for the meet of a lifetime made for the call and of the slice's own. The token of the slice's lifetime is cut
--- in two: one half goes into the token of the meet, the other is that lifetime's own for the call. Assumes nothing.
+-- `next`, for the meet of a lifetime made for the call and of the slice's own. The token of the slice's lifetime is
+-- cut in two: one half goes into the token of the meet, the other is that lifetime's own for the call. Assumes
+-- nothing.
 use mathlib.Core.Path.{refl, ap}
 use Prim.Native.Nat.{ℕ, _<_, _^_}
 use mathlib.Core.List.{[], _∷_, mem-cons-of-mem, mem-append-left}
@@ -52,8 +53,8 @@ use Rattle.walk_laws.proofs.Calling.{over}
 use Rattle.walk_laws.proofs.Data.{typed-at}
 use Rattle.walk_laws.proofs.Lying.{held-in, lies-out}
 use Rattle.reader.proofs.Walks.{gone}
-use Rattle.reader.proofs.Take.{slice-of, Core, Enters, machine, Post, exits, by-walk, known-at, rowS, rowD}
-use Rattle.reader.proofs.Take.{Takes}
+use Rattle.reader.proofs.Take.{slice-of, Core, Enters, machine, Post, exits, by-walk, known-at, foundData}
+use Rattle.reader.proofs.Take.{takenData, Takes}
 use Rattle.places.proofs.Taken as D
 use Rattle.places.proofs.Taken.Laws as D′
 use Rattle.reader.proofs.next as next
@@ -123,14 +124,14 @@ module _ {M : Type 1} (𝓤 : URA M) (H : Heap 𝓤) (A : Atoms 𝓤) (W : Given
   record-is h is = LL.owed (T.the-type α) (T′.the-laws α) h _ is .1 .1 .0
 
   made-is : (t : Found) (v : Val) (h : Reader) → Is S.the-row t (v ∷ []) → Is R h (T′.lowered h ∷ [])
-      → Is D.the-row (made t h) (rowD .val (made t h) ∷ [])
+      → Is D.the-row (made t h) (takenData .val (made t h) ∷ [])
   made-is t v h isT is =
-      LL.owes D.the-type D′.the-laws (made t h) (known-at rowS t v isT, (block-is h is, (record-is h is, tt)))
+      LL.owes D.the-type D′.the-laws (made t h) (known-at foundData t v isT, (block-is h is, (record-is h is, tt)))
 
   module _ (C : Calls 𝓤 H) (Λ : Loops 𝓤 H) (fm : FmC 𝓤 H (W .laws) C)
       (known : Triple 𝓤 (C next-def.name) (Next 𝓤 H A at-mem run)) where
-    walk : ent 𝓤 (Enters rowD Takes 𝓤 H A W κ q d)
-        (WpFn 𝓤 H C Λ code.function (machine rowD Takes 𝓤 H A W κ q d) (Post rowD Takes 𝓤 H A W κ q d))
+    walk : ent 𝓤 (Enters takenData Takes 𝓤 H A W κ q d)
+        (WpFn 𝓤 H C Λ code.function (machine takenData Takes 𝓤 H A W κ q d) (Post takenData Takes 𝓤 H A W κ q d))
     walk =
         qed W ((‵ (flft κ q) ⊛ ‵ ftrue)
         ∷ ‵ (owns (ShrSlice (named 0) κ u8 ∷ usize ∷ usize ∷ []) (d .log, (d .block, (d .«record», tt)))
@@ -140,7 +141,7 @@ module _ {M : Type 1} (𝓤 : URA M) (H : Heap 𝓤) (A : Atoms 𝓤) (W : Given
         split ! $ move ! (3 ∷ []) $
         split ! $ move ! (0 ∷ 2 ∷ 3 ∷ []) $
         -- [the token; what s owns, twice; …]
-        enter ! C Λ code.function (machine rowD Takes 𝓤 H A W κ q d) _ $
+        enter ! C Λ code.function (machine takenData Takes 𝓤 H A W κ q d) _ $
         alloc1 ! (λ l₀. alloc1 ! (λ l₁. alloc1 ! (λ l₂. alloc1 ! (λ l₃. alloc1 ! (λ l₄. alloc1 ! (λ l₅. alloc1
         ! (λ l₆. alloc1 ! (λ l₇. alloc1 ! (λ l₈. alloc0 ! $ params1 ! $
         pass1 ! (init ! 14 refl (shr-slice-lawful 𝓤 H A W (named 0) κ u8 .typed (d .log)
@@ -192,8 +193,8 @@ module _ {M : Type 1} (𝓤 : URA M) (H : Heap 𝓤) (A : Atoms 𝓤) (W : Given
         peeks ! S.the-row (Is S.the-row) (shows 𝓤 H A S.the-row) t (u ∷ []) (λ isT. drop ! $
         -- [the tokens; the reader's last value; true; the lender's part; what gives a's whole token back; _8; …; _7;
         -- …; _6; …; room for _5; …; what frees _4; _3; …; _2; …; _1; …; room for _0; …; what s owns; …]
-        land ! (from ! (stop !)) (init ! 11 refl (typed-at rowS 𝓤 H A W t u isT)) $
-        rewrite ! 11 (λ (w : Val). ‵ (fat fullShare S′.mir l₅ 0 w)) (ap only (rowS .tells t (u ∷ []) isT)) refl $
+        land ! (from ! (stop !)) (init ! 11 refl (typed-at foundData 𝓤 H A W t u isT)) $
+        rewrite ! 11 (λ (w : Val). ‵ (fat fullShare S′.mir l₅ 0 w)) (ap only (foundData .tells t (u ∷ []) isT)) refl $
         -- the new lifetime is ended, and the reader comes back at its last value
         split ! $ use1 W (‵ (flft (a ∷ []) (PosShare·left q)) ⊛ ‵ (flft κ (PosShare·left q))) (W .lfts .lft-unmeet
         (a ∷ []) κ (PosShare·left q)) $ split ! $
@@ -212,22 +213,22 @@ module _ {M : Type 1} (𝓤 : URA M) (H : Heap 𝓤) (A : Atoms 𝓤) (W : Given
         (from ! (stop !)) (init ! 4 refl (tt, record { fits = record-is (ws .0) is .1 })) $
         assigns ! (agg ! (and-then ! (load ! (from ! (stop !)) (look ! 10 refl)) (and-then ! (load ! (from ! (stop !))
         (look ! 6 refl)) (and-then ! (load ! (from ! (stop !)) (look ! 4 refl)) (no-more !))))) (from ! (stop !))
-        (init ! 19 refl (rowD .typed 𝓤 H A W (made t (ws .0)) (made-is t u (ws .0) isT is))) $
+        (init ! 19 refl (takenData .typed 𝓤 H A W (made t (ws .0)) (made-is t u (ws .0) isT is))) $
         returns ! (look ! 19 refl) $ gone ! 19 19 refl refl $ gone ! 17 17 refl refl $ gone ! 15 15 refl refl $
         gone ! 13 13 refl refl $ gone ! 0 11 refl refl $ gone ! 9 9 refl refl $ gone ! 7 7 refl refl $
         gone ! 5 5 refl refl $ gone ! 3 3 refl refl $ free0 ! $
         -- [the half of 'a's token; the other, with true; true; what s owns; …]
         move ! (1 ∷ []) $ split ! $ move ! (2 ∷ 0 ∷ []) $ use2 W (‵ (flft κ q)) (W .lfts .lft-join κ q) $
-        owned ! D.the-row (Is D.the-row) (rowD .makes 𝓤 H A W) (made t (ws .0)) _ (made-is t u (ws .0) isT is) $
+        owned ! D.the-row (Is D.the-row) (takenData .makes 𝓤 H A W) (made t (ws .0)) _ (made-is t u (ws .0) isT is) $
         keep ! (0 ∷ 1 ∷ 4 ∷ []) $
-        by ! (exits rowD Takes 𝓤 H A W κ q d b-fits r-fits (made t (ws .0)) _
+        by ! (exits takenData Takes 𝓤 H A W κ q d b-fits r-fits (made t (ws .0)) _
         (λ i. made (e .found i) (e .after i))))))))))))))))))))
 
 pub taken-through-spec : {M : Type 1} → stated.statement M
 unfolding code.routine
 taken-through-spec 𝓤 H 𝓜 𝓖 𝓡 =
-    over 𝓤 H 𝓜 𝓡 code.env (Core rowD Takes 𝓤 H (𝓖 .A)) (Next 𝓤 H (𝓖 .A) (𝓜 .mem) (𝓡 .run)) name code.function
+    over 𝓤 H 𝓜 𝓡 code.env (Core takenData Takes 𝓤 H (𝓖 .A)) (Next 𝓤 H (𝓖 .A) (𝓜 .mem) (𝓡 .run)) name code.function
     (code.unfolded 𝓤 H 𝓜 𝓡) next-def.name next-def.routine code.calls-reader·next (met 𝓤 H 𝓜 𝓖 𝓡)
-    (λ 𝓣 known. by-walk rowD Takes 𝓤 H (𝓖 .A) (givenOf 𝓤 H 𝓜 𝓖) 𝓣 code.function
+    (λ 𝓣 known. by-walk takenData Takes 𝓤 H (𝓖 .A) (givenOf 𝓤 H 𝓜 𝓖) 𝓣 code.function
     (λ κ q d b-fits r-fits p stands. walk 𝓤 H (𝓖 .A) (givenOf 𝓤 H 𝓜 𝓖) (𝓜 .mem) (𝓡 .run) κ q d b-fits r-fits p stands
     (𝓣 .C) (𝓣 .Λ) (fmOf 𝓤 H (givenOf 𝓤 H 𝓜 𝓖 .laws) 𝓣) known))
