@@ -46,7 +46,7 @@ use Rattle.log.proofs.Found as S
 use Rattle.log.proofs.Found.Laws as S′
 use Rattle.walk_laws.proofs.Data.{typed-at}
 use Rattle.reader.proofs.Walks.{answers, gone}
-use Rattle.reader.proofs.Take.{B, slice-of, known-at, foundData, Finds}
+use Rattle.reader.proofs.Take.{B, slice-of, SliceOwn, known-at, foundData, Finds}
 use Rattle.reader.proofs.Slices as on
 use Rattle.reader.proofs.Slices.{openedRow, Opens, judgedData}
 use Rattle.reader.proofs.Fields as peek
@@ -112,7 +112,7 @@ module _ {M : Type 1} (𝓤 : URA M) (H : Heap 𝓤) (A : Atoms 𝓤) (W : Given
         alloc1 ! (λ l₀. alloc1 ! (λ l₁. alloc1 ! (λ l₂. alloc1 ! (λ l₃. alloc1 ! (λ l₄. alloc1 ! (λ l₅. alloc0 ! $
         params1 ! $ pass1 ! (init ! 8 refl (shr-slice-lawful 𝓤 H A W (named 0) κ u8 .typed s (slice-of s ∷ []) p .0)) $
         pass0 ! $
-        move ! (12 ∷ []) $ use1 W (raw (on.On openedRow Opens 𝓤 H A .pre opens) ⊛ ‵ (on.Own κ s))
+        move ! (12 ∷ []) $ use1 W (raw (on.On openedRow Opens 𝓤 H A .pre opens) ⊛ ‵ (SliceOwn κ s))
         (on.goes openedRow Opens 𝓤 H A W κ q s) $ split ! $
         calls-at ! fm (on.On openedRow Opens 𝓤 H A) known-opens opens
         (and-then ! (load ! (from ! (stop !)) (look ! 10 refl)) (no-more !)) (λ u.

@@ -21,7 +21,6 @@ use types.Run.{alloc0, params1, pass1, pass0, free0}
 use sound.WpLaws.{FmC, fmOf}
 use denote.RattleType.{RattleType}
 use denote.Laws.{Is}
-use denote.Plain.{uint-makes}
 use denote.Builtin.{u8, usize}
 use denote.Ref.{RefT, NamedLft, now}
 use denote.Signature.{namedLft}
@@ -42,8 +41,8 @@ use Rattle.reader.proofs.Reader as T
 use Rattle.reader.proofs.Reader.Laws as T′
 use Rattle.walk_laws.proofs.Calling.{over}
 use Rattle.reader.proofs.Walks.{answers, gone}
-use Rattle.reader.proofs.Take.{B, slice-of}
-use Rattle.reader.proofs.Slices.{Own, On, Enters, Post, to, goes, said, exits, by-walk, openedRow, Opens}
+use Rattle.reader.proofs.Take.{B, slice-of, SliceOwn, reader-own}
+use Rattle.reader.proofs.Slices.{On, Enters, Post, to, goes, said, exits, by-walk, openedRow, Opens}
 use Rattle.reader.proofs.Slices.{judgedData}
 use Rattle.walk_laws.proofs.Data.{Data, struct, typed-at}
 use Rattle.places.proofs.start_of.Symbol as start-def
@@ -95,15 +94,12 @@ module _ {M : Type 1} (𝓤 : URA M) (H : Heap 𝓤) (A : Atoms 𝓤) (W : Given
   -- what the opening owns: of the slice's, with the numbers' facts, what the reader owns, and with the verdict's the
   -- whole
   made-owns : (j : Start) (vs : List Val) → Is J.the-row j vs
-      → ent 𝓤 (sem 𝓤 H A (Own κ s))
+      → ent 𝓤 (sem 𝓤 H A (SliceOwn κ s))
       (sem 𝓤 H A (openedRow (κ, tt) .own (made j) (LL.vals (O.the-type α) (O′.the-laws α) (made j))))
   made-owns j vs is =
-      qed W (‵ (Own κ s) ∷ []) ∵
-      nothing ! $ owned ! usize (Is usize) (uint-makes 𝓤 H A W w64) 0 _ (refl, lit< tt) $ fjoin ! $
-      owned ! usize (Is usize) (uint-makes 𝓤 H A W w64) (j .block) _ (block-is j vs is) $ fjoin ! $
-      move ! (1 ∷ 0 ∷ []) $ fjoin ! $
+      qed W (‵ (SliceOwn κ s) ∷ []) ∵
       use1 W (‵ (B α .own (made j .reader) (T′.lowered (made j .reader) ∷ [])))
-      (own-shut 𝓤 H A W (T.the-type α) (T′.the-laws α) (s, (j .block, (0, tt)))) $
+      (reader-own 𝓤 H A W κ (made j .reader) (block-is j vs is .1) (lit< tt) (named 0)) $
       nothing ! $ move ! (1 ∷ 0 ∷ []) $ fjoin ! $
       owned ! (judgedData .type) (Is (judgedData .type)) (judgedData .makes 𝓤 H A W) (j .verdict) _
       (verdict-is j vs is) $ fjoin ! $
@@ -118,7 +114,7 @@ module _ {M : Type 1} (𝓤 : URA M) (H : Heap 𝓤) (A : Atoms 𝓤) (W : Given
         enter ! C Λ code.function (slice-of s ∷ []) _ $
         alloc1 ! (λ l₀. alloc1 ! (λ l₁. alloc1 ! (λ l₂. alloc1 ! (λ l₃. alloc0 ! $ params1 ! $
         pass1 ! (init ! 4 refl (shr-slice-lawful 𝓤 H A W (named 0) κ u8 .typed s (slice-of s ∷ []) p .0)) $ pass0 ! $
-        move ! (8 ∷ []) $ use1 W (raw (On startRow Starts 𝓤 H A .pre begins) ⊛ ‵ (Own κ s))
+        move ! (8 ∷ []) $ use1 W (raw (On startRow Starts 𝓤 H A .pre begins) ⊛ ‵ (SliceOwn κ s))
         (goes startRow Starts 𝓤 H A W κ q s) $ split ! $
         calls-at ! fm (On startRow Starts 𝓤 H A) known begins
         (and-then ! (load ! (from ! (stop !)) (look ! 6 refl)) (no-more !)) (λ u.
@@ -143,7 +139,7 @@ module _ {M : Type 1} (𝓤 : URA M) (H : Heap 𝓤) (A : Atoms 𝓤) (W : Given
         returns ! (look ! 8 refl) $ gone ! 8 8 refl refl $ gone ! 6 6 refl refl $ gone ! 4 4 refl refl $
         gone ! 2 2 refl refl $ free0 ! $
         -- [the token; what s owns]
-        move ! (1 ∷ []) $ use1 W (‵ (Own κ s) ⊛ ‵ (Own κ s))
+        move ! (1 ∷ []) $ use1 W (‵ (SliceOwn κ s) ⊛ ‵ (SliceOwn κ s))
         (shr-slice-copy 𝓤 H A W (named 0) κ u8 .twice s (slice-of s ∷ [])) $ split ! $
         use1 W (‵ (openedRow (κ, tt) .own (made j) (LL.vals (O.the-type α) (O′.the-laws α) (made j))))
         (made-owns j (u ∷ []) is) $

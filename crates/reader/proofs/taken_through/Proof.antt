@@ -25,17 +25,15 @@ use types.Run.{alloc1, alloc0, params1, pass1, pass0, free0}
 use types.SemTy.{Body}
 use types.Tokens.{lft-new, lft-end}
 use sound.WpLaws.{FmC, fmOf}
-use denote.RattleType.{RattleType, owns}
+use denote.RattleType.{RattleType}
 use denote.Laws.{Is, shows}
 use denote.Lend.{lends-ref, ref-back}
 use denote.Memory.{mem}
-use denote.Plain.{uint-makes}
 use denote.Builtin.{u8, usize}
 use denote.Ref.{RefT, NamedLft, MutRef, now}
 use denote.Slice.{ShrSlice, shr-slice-lawful, shr-slice-copy}
 use denote.Steps.{only, owned, peeks, heard, nothing}
 use denote.Struct.Laws as LL
-use denote.Struct.Rest.{own-shut}
 use denote.Triple.Statement.{Contract, Triple}
 use denote.Triple.Call.{calls-at}
 use denote.Triple.Clauses.{ensured, lasts}
@@ -53,8 +51,8 @@ use Rattle.walk_laws.proofs.Calling.{over}
 use Rattle.walk_laws.proofs.Data.{typed-at}
 use Rattle.walk_laws.proofs.Lying.{held-in, lies-out}
 use Rattle.reader.proofs.Walks.{gone}
-use Rattle.reader.proofs.Take.{slice-of, Core, Enters, machine, Post, exits, by-walk, known-at, foundData}
-use Rattle.reader.proofs.Take.{takenData, Takes}
+use Rattle.reader.proofs.Take.{slice-of, SliceOwn, FieldsOwn, reader-own, Core, Enters, machine, Post, exits}
+use Rattle.reader.proofs.Take.{by-walk, known-at, foundData, takenData, Takes}
 use Rattle.places.proofs.Taken as D
 use Rattle.places.proofs.Taken.Laws as D′
 use Rattle.reader.proofs.next as next
@@ -87,7 +85,7 @@ module _ {M : Type 1} (𝓤 : URA M) (H : Heap 𝓤) (A : Atoms 𝓤) (W : Given
   R = T.the-row α
 
   abbrev Own : Fml
-  Own = ShrSlice (named 0) κ u8 .own (d .log) (slice-of (d .log) ∷ [])
+  Own = SliceOwn κ (d .log)
 
   -- the reader at the block l, lent for the meet of a and κ under the name δ
   abbrev x : ℕ → GName → RefT Reader
@@ -133,9 +131,7 @@ module _ {M : Type 1} (𝓤 : URA M) (H : Heap 𝓤) (A : Atoms 𝓤) (W : Given
     walk : ent 𝓤 (Enters takenData Takes 𝓤 H A W κ q d)
         (WpFn 𝓤 H C Λ code.function (machine takenData Takes 𝓤 H A W κ q d) (Post takenData Takes 𝓤 H A W κ q d))
     walk =
-        qed W ((‵ (flft κ q) ⊛ ‵ ftrue)
-        ∷ ‵ (owns (ShrSlice (named 0) κ u8 ∷ usize ∷ usize ∷ []) (d .log, (d .block, (d .«record», tt)))
-        (slice-of (d .log) ∷ [], (vint w64 (d .block) ∷ [], (vint w64 (d .«record») ∷ [], tt)))) ∷ []) ∵
+        qed W ((‵ (flft κ q) ⊛ ‵ ftrue) ∷ ‵ (FieldsOwn κ d) ∷ []) ∵
         move ! (1 ∷ []) $ fsplit ! $
         use1 W (‵ Own ⊛ ‵ Own) (shr-slice-copy 𝓤 H A W (named 0) κ u8 .twice (d .log) (slice-of (d .log) ∷ [])) $
         split ! $ move ! (3 ∷ []) $
@@ -159,13 +155,9 @@ module _ {M : Type 1} (𝓤 : URA M) (H : Heap 𝓤) (A : Atoms 𝓤) (W : Given
         )) $
         assigns ! (addr ! (from ! (stop !))) (from ! (stop !)) (init ! 4 refl (tt, tt)) $
         -- what the reader owns is made of what the slice owns, and the reader is lent
-        move ! (19 ∷ []) $ nothing ! $ owned ! usize (Is usize) (uint-makes 𝓤 H A W w64) (d .«record») _
-        (refl, r-fits) $
-        fjoin ! $ owned ! usize (Is usize) (uint-makes 𝓤 H A W w64) (d .block) _ (refl, b-fits) $ fjoin ! $
-        move ! (1 ∷ 0 ∷ []) $ fjoin ! $
-        use1 W (‵ (R .own d (T′.lowered d ∷ [])))
-        (own-shut 𝓤 H A W (T.the-type α) (T′.the-laws α) (d .log, (d .block, (d .«record», tt))))
-        $ move ! (9 ∷ 0 ∷ []) $ use2 W (‵ (mem R .lies d l₄ 0))
+        move ! (19 ∷ []) $
+        use1 W (‵ (R .own d (T′.lowered d ∷ []))) (reader-own 𝓤 H A W κ d b-fits r-fits (named 1)) $
+        move ! (9 ∷ 0 ∷ []) $ use2 W (‵ (mem R .lies d l₄ 0))
         (held-in (T.the-type α) (T′.the-laws α) 𝓤 H A W (T′.mir erased) refl d l₄ 0) $
         -- [the reader lies there; _8; …; _7; …; _6; …; _5; …; what frees _4; _3; …; _2; …; _1; …; room for _0; …; the
         -- token; what s owns; …]
