@@ -1,16 +1,26 @@
--- Laws of what a block has to be. In order: the number of records, fitting or not; the parts of the layout.
--- Assumes nothing.
+-- Laws of what a block has to be. In order: the setup, as its words are read; the number of records, fitting or not;
+-- records counted block by block. Assumes nothing.
 use Prim.Native.Nat.{ℕ, zero, suc, _+_, _*_, _-_, _≤_, _<_}
 use native.Mathlib.Omega.{arith}
-use mathlib.Core.Path.{_≡_, refl, sym, ap, _∙_}
-use mathlib.Core.Bool.{Bool, true, false, _&&_, _||_, false≢true}
+use mathlib.Core.Path.{_≡_, refl, ap}
+use mathlib.Core.Bool.{true, false, _&&_, _||_, false≢true}
 use mathlib.Core.List.{List}
+use lib.ListN.{take, drop}
 use lib.Dec.{eqb, leb}
-use borrow.Author.Tests.{eqb-true, eq-eqb, ne-eqb, le-leb, leb-true}
+use borrow.Author.Tests.{eq-eqb, ne-eqb, le-leb, leb-true}
 use Rattle.lists.specs.Lists.{within}
-use Rattle.lists.proofs.Testing.{tested, equal-or, and-true, or-false, within-true, within-holds, within-below}
+use Rattle.lists.proofs.Testing.{equal-or, and-true, within-true, within-holds, within-below}
 use Rattle.lists.proofs.Testing.{within-above}
-use Rattle.judging.specs.Blocks.{blocks, block, count, recordsTo, countFits, unusedZero, layoutFits}
+use Rattle.words.specs.Words.{word}
+use Rattle.rule.specs.Setups.{asked}
+use Rattle.judging.specs.Blocks.{block, setupIn, count, recordsTo, countFits}
+
+-- ---- the setup
+
+pub setup-read : (b : List ℕ) {p n s : ℕ} → p ≡ word b 4 → n ≡ word b 8 → s ≡ word b 12
+    → asked p n s (take 32 (drop 16 b)) ≡ setupIn b
+unfolding setupIn
+setup-read b ep en es = rw (ep, en, es)
 
 -- ---- the number of records
 

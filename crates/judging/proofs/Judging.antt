@@ -1,4 +1,5 @@
--- Laws of judging. In order: the refusal of a block, rule by rule; the blocks that are left to judge. Assumes nothing.
+-- Laws of judging. In order: the refusal of a block, rule by rule; the blocks that are left to judge. Assumes
+-- nothing.
 use Prim.Native.Nat.{ℕ, suc, _+_, _*_, _-_, _≤_, _<_}
 use native.Mathlib.Omega.{arith}
 use mathlib.Core.Path.{_≡_, refl, _∙_}

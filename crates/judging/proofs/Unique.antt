@@ -1,20 +1,18 @@
 -- "Given exactly when": each byte string is accepted, or refused with one number and block. In order: refused exactly
 -- when; accepted exactly when; places; the answers of the code. Assumes nothing.
-use Prim.Native.Nat.{ℕ, zero, suc, _+_, _*_, _-_, _≤_, _<_}
+use Prim.Native.Nat.{ℕ, zero, suc, _+_, _-_, _≤_, _<_}
 use native.Mathlib.Omega.{arith}
-use native.Mathlib.Nat.{eq-or-lt-of-le}
-use mathlib.Core.Path.{_≡_, refl, sym, ap, subst, _∙_}
-use mathlib.Core.Bool.{Bool, true, false, cond, not, _&&_, _||_, true≢false}
+use mathlib.Core.Path.{_≡_, refl, sym, subst, _∙_}
+use mathlib.Core.Bool.{true, false}
 use mathlib.Core.List.{List}
 use mathlib.Core.Logic.{_⊎_, inl, inr, ⊎-elim}
 use lib.Arith.{lt-of-le-ne}
 use lib.Dec.{eqb}
-use borrow.Author.Tests.{eqb-true, eqb-false, eq-eqb, ne-eqb}
-use Rattle.lists.specs.Lists.{within}
+use borrow.Author.Tests.{eqb-true, eqb-false, ne-eqb}
 use Rattle.lists.proofs.Testing.{tested, equal-or, cond-true, cond-false}
 use Rattle.rule.specs.View.{Determined}
-use Rattle.judging.specs.Blocks.{blocks, lengthFits, block, checkFits, placeFits, setupIn, layoutFits}
-use Rattle.judging.specs.Log.{Verdict, accepted, refused, told, blockRefusal, judgedFrom, judged, Reads}
+use Rattle.judging.specs.Blocks.{blocks, lengthFits, block, checkFits, placeFits, layoutFits}
+use Rattle.judging.specs.Log.{Verdict, refused, told, blockRefusal, judgedFrom, judged, Reads}
 use Rattle.judging.specs.declared.Judged.{Judged}
 use Rattle.judging.specs.declared.Judged.the-variants.{Accepted, Refused}
 use Rattle.judging.proofs.Judging.{judged-good, judged-refused, judged-end}

@@ -4,7 +4,7 @@ use mathlib.Core.Path.{_≡_}
 use mathlib.Core.Bool.{cond, not}
 use mathlib.Core.List.{List, [], _∷_}
 use lib.Dec.{eqb}
-use Rattle.rule.specs.Refusal.{Refusal, refuse, first}
+use Rattle.rule.specs.Refusal.{refuse, first}
 use Rattle.rule.specs.Setups.{setupRefusal}
 use Rattle.judging.specs.Blocks.{blocks, lengthFits, block, checkFits, placeFits, setupIn, layoutFits}
 use Rattle.judging.specs.declared.Judged.{Judged}

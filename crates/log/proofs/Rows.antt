@@ -1,6 +1,5 @@
 -- Laws of the rows of a log that reads. In order: the records of one block; the rows' number; where row i stands; the
--- rows
--- as the code reads them, and as the table takes them; a block's records. Assumes nothing.
+-- rows as the code reads them, and as the table takes them; a block's records. Assumes nothing.
 use Prim.Native.Nat.{ℕ, zero, suc, _+_, _*_, _-_, _/_, _%_, _≤_, _<_}
 use native.Mathlib.Omega.{arith}
 use mathlib.Core.Path.{_≡_, refl, sym, ap, _∙_}
@@ -8,7 +7,7 @@ use mathlib.Core.List.{List, [], _∷_, _++_}
 use lib.ListN.{length, getD, drop, length-append, List·getD-append, List·getD-eq-default}
 use lib.Seq.{getD-append-add}
 use lib.Dec.{ltb}
-use borrow.Author.Tests.{ltb-true, ltb-false, le-ltb, eq-eqb}
+use borrow.Author.Tests.{ltb-true, ltb-false, lt-ltb, le-ltb, eq-eqb}
 use Rattle.lists.specs.Lists.{at}
 use Rattle.lists.proofs.Testing.{tested, equal-or}
 use Rattle.words.specs.Words.{word}
@@ -17,9 +16,9 @@ use Rattle.rule.specs.Calls.{Call, request}
 use Rattle.rule.specs.Table.{rows, columnRefusal}
 use Rattle.judging.specs.Blocks.{blocks, block, count, recordsTo}
 use Rattle.judging.specs.Log.{Reads}
-use Rattle.log.specs.Records.{entries, columnFrom, column, askedTimes, rowList, rowAt}
-use Rattle.log.specs.declared.Record.{Record}
-use Rattle.judging.proofs.Blocks.{Counted, records-zero, records-more}
+use Rattle.log.specs.Records.{entries, columnFrom, column, askedTimes, rowList, rowAt, found}
+use Rattle.log.specs.declared.Found.the-variants.{Row, End}
+use Rattle.judging.proofs.Blocks.{records-zero, records-more}
 use Rattle.judging.proofs.Accepted.{accepted-sized, accepted-counted, accepted-last, accepted-most, lt-of-ne}
 use Rattle.judging.proofs.Accepted.{word-block}
 
@@ -157,6 +156,14 @@ module _ (log : List ℕ) (r : Reads log) where
         ek ∙ sym (at-column 1 (omega arith) log r i (omega (arith, same-length 1))),
         em ∙ sym (at-column 2 (omega arith) log r i (omega (arith, same-length 2))),
       )
+
+pub found-row : (log : List ℕ) (i : ℕ) → i < length (askedTimes log) → Row (rowAt log i) ≡ found log i
+unfolding found
+found-row log i h = rw (lt-ltb i (length (askedTimes log)) h)
+
+pub found-none : (log : List ℕ) (i : ℕ) → length (askedTimes log) ≤ i → End ≡ found log i
+unfolding found
+found-none log i h = rw (le-ltb i (length (askedTimes log)) h)
 
 -- ---- the rows as the table takes them
 

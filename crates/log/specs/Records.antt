@@ -73,6 +73,7 @@ abbrev pub unlessRefused : Verdict → List ℕ → List ℕ
 unlessRefused accepted bytes = bytes
 unlessRefused (refused n i) bytes = []
 
--- "that stretch of the caller's log": "12 times the record count, from byte 8 of the block"; empty where it is refused
+-- "that stretch of the caller's log": "12 times the record count, from byte 8 of the block"; empty where it is
+-- refused
 unfoldable pub stretch : List ℕ → ℕ → List ℕ
 stretch log i = unlessRefused (blockAsked log i) (take (12 * count (block log i)) (drop (512 * i + 8) log))

@@ -1,5 +1,5 @@
--- Laws of the places of a log that reads. In order: whether a record is at a place; what is taken there; reading begins
--- at a place that is reached, and goes on to such a place. Assumes nothing.
+-- Laws of the places of a log that reads. In order: whether a record is at a place; what is taken there; reading
+-- begins at a place that is reached, and goes on to such a place. Assumes nothing.
 use Prim.Native.Nat.{ℕ, _+_, _*_, _-_, _≤_, _<_}
 use native.Mathlib.Omega.{arith}
 use mathlib.Core.Path.{_≡_, refl, ap, _∙_}
@@ -16,7 +16,7 @@ use Rattle.log.specs.Records.{askedTimes, rowAt, found}
 use Rattle.log.specs.declared.Found.the-variants.{Row, End}
 use Rattle.log.specs.declared.Record.{Record}
 use Rattle.judging.proofs.Accepted.{accepted-counted, word-block}
-use Rattle.log.proofs.Rows.{column-blocks, column-most, column-some, row-here}
+use Rattle.log.proofs.Rows.{column-blocks, column-most, column-some, row-here, found-row, found-none}
 use Rattle.places.specs.declared.Taken.{Taken}
 use Rattle.places.specs.Places.{rowNumber, hasRow, takenAt, Reached, Stands, firstBlock}
 
@@ -74,26 +74,32 @@ pub taken-none : (log : List ℕ) (b r : ℕ) → hasRow log b r ≡ false
 unfolding takenAt
 taken-none log b r h = rw h
 
-module _ (log : List ℕ) (b r : ℕ) (low : 0 < b) (s : Reached log b r) (h : rowNumber b r < length (askedTimes log))
-  where
-    pub row-taken : (t k m : ℕ) → t ≡ word log (512 * b + 8 + 12 * r) → k ≡ word log (512 * b + 8 + 12 * r + 4)
-        → m ≡ word log (512 * b + 8 + 12 * r + 8)
-        → record { time = t; task = k; amount = m } ≡ rowAt log (rowNumber b r)
-    row-taken t k m et ek em =
-        row-here log (s .reads) (rowNumber b r) t k m h
-        (et ∙ ap (word log) (omega (arith, s .few)))
-        (ek ∙ ap (word log) (omega (arith, s .few)))
-        (em ∙ ap (word log) (omega (arith, s .few)))
+-- the words x there are a row
+pub record RowRead (log : List ℕ) (b r : ℕ) (x : Record) : Type 0 where
+  pub has : hasRow log b r ≡ true
+  pub row : x ≡ rowAt log (rowNumber b r)
 
-    pub taken-last : (x : Record) → x ≡ rowAt log (rowNumber b r) → r ≡ 40
-        → record { found = Row x; block = b + 1; «record» = 0 } ≡ takenAt log b r
-    unfolding takenAt
-    taken-last x e q = rw (e, has-row-true log b r low h, eq-eqb r 40 q)
+pub row-read : (log : List ℕ) (b r t k m : ℕ) → 0 < b → Reached log b r → rowNumber b r < length (askedTimes log)
+    → t ≡ word log (512 * b + 8 + 12 * r) → k ≡ word log (512 * b + 8 + 12 * r + 4)
+    → m ≡ word log (512 * b + 8 + 12 * r + 8) → RowRead log b r (record { time = t; task = k; amount = m })
+row-read log b r t k m low s h et ek em =
+    record {
+      has = has-row-true log b r low h;
+      row =
+          row-here log (s .reads) (rowNumber b r) t k m h
+          (et ∙ ap (word log) (omega (arith, s .few)))
+          (ek ∙ ap (word log) (omega (arith, s .few)))
+          (em ∙ ap (word log) (omega (arith, s .few)));
+    }
 
-    pub taken-next : (x : Record) → x ≡ rowAt log (rowNumber b r) → (r ≡ 40 → ⊥)
-        → record { found = Row x; block = b; «record» = r + 1 } ≡ takenAt log b r
-    unfolding takenAt
-    taken-next x e q = rw (e, has-row-true log b r low h, ne-eqb r 40 q)
+module _ {log : List ℕ} {b r : ℕ} {x : Record} (read : RowRead log b r x) where
+  pub taken-last : r ≡ 40 → record { found = Row x; block = b + 1; «record» = 0 } ≡ takenAt log b r
+  unfolding takenAt
+  taken-last e = rw (read .row, read .has, eq-eqb r 40 e)
+
+  pub taken-next : (r ≡ 40 → ⊥) → record { found = Row x; block = b; «record» = r + 1 } ≡ takenAt log b r
+  unfolding takenAt
+  taken-next e = rw (read .row, read .has, ne-eqb r 40 e)
 
 -- ---- the places that reading reaches
 
@@ -116,7 +122,7 @@ pub record Taking (log : List ℕ) (b r n : ℕ) (t : Taken) : Type 0 where
   pub stays : length (askedTimes log) ≤ n → (t .block ≡ b) × (t .«record» ≡ r)
 
 pub taking : (log : List ℕ) (b r : ℕ) → 0 < b → Reached log b r → Taking log b r (rowNumber b r) (takenAt log b r)
-unfolding takenAt found
+unfolding takenAt
 taking log b r low s =
     let rows = length (askedTimes log) in
     let n = rowNumber b r in
@@ -127,7 +133,7 @@ taking log b r low s =
     (λ q.
     rw (le-leb 1 b low, e, eq-eqb r 40 q)
     (record {
-      finds = rw e;
+      finds = found-row log n h;
       past-zero = omega arith;
       reached = record { reads = s .reads; few = omega arith; inside = omega arith };
       goes = λ _. omega arith;
@@ -136,7 +142,7 @@ taking log b r low s =
     (λ q.
     rw (le-leb 1 b low, e, ne-eqb r 40 q)
     (record {
-      finds = rw e;
+      finds = found-row log n h;
       past-zero = low;
       reached = record { reads = s .reads; few = omega (arith, s .few); inside = omega arith };
       goes = λ _. omega arith;
@@ -146,12 +152,11 @@ taking log b r low s =
     let l = ltb-false n rows e in
     rw (le-leb 1 b low, e)
     (record {
-      finds = rw e;
+      finds = found-none log n l;
       past-zero = low;
       reached = s;
       goes = λ h. absurd (omega arith);
-      stays = λ _.
-          (refl, refl);
+      stays = λ _. (refl, refl);
     }))
 
 -- "and stays"

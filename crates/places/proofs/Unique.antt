@@ -7,11 +7,9 @@ use Rattle.judging.specs.Log.{judged}
 use Rattle.judging.proofs.Unique.{told-determined}
 use Rattle.places.specs.Places.{Started}
 
-pub start-determined : (log : List ℕ)
-    → Determined (Started log)
+pub start-determined : (log : List ℕ) → Determined (Started log)
 start-determined log x y p q =
     λ i. record {
       verdict = told-determined (judged log) (x .verdict) (y .verdict) (p .verdict) (q .verdict) i;
-      block =
-          (p .block ∙ sym (q .block)) i;
+      block = (p .block ∙ sym (q .block)) i;
     }

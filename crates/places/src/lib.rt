@@ -1,5 +1,5 @@
-// The places of a log, each a block's number and a record's: what stands there and which place is after it, the setup,
-// and where reading begins. All of it takes the caller's bytes and two numbers, which `reader::Reader` holds.
+// The places of a log, each a block's number and a record's: what stands there and which place is after it, the
+// setup, and where reading begins. All of it takes the caller's bytes and two numbers, which `reader::Reader` holds.
 ghost use mathlib.Core.Path.{_≡_};
 ghost use Rattle.places.specs.Places.{takenAt, setupAt, Stands, Started};
 use judging::Judged;
@@ -63,7 +63,8 @@ pub fn found_at(log: &[u8], block: usize, record: usize) -> Found
     taken.found
 }
 
-// The setup of the log that a reader at a place stands on, the same at each record; of a refused log, one plain setup.
+// The setup of the log that a reader at a place stands on, the same at each record; of a refused log, one plain
+// setup.
 pub fn setup_at(log: &[u8], block: usize, _record: usize) -> Setup
     requires { ⌜ Stands (now log) block _record ⌝ }
     ensures { λ r. ⌜ r ≡ setupAt (now (log .entry)) block ⌝ }

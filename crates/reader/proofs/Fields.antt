@@ -44,17 +44,11 @@ use Rattle.reader.proofs.Reader as T
 use Rattle.reader.proofs.Reader.Laws as T′
 use Rattle.reader.proofs.Walks.{answers, gone}
 use Rattle.reader.proofs.Take as core
-use Rattle.reader.proofs.Take.{B, Core}
+use Rattle.reader.proofs.Take.{B, lasting, Core}
 
 module _ (R : Data) (Said : List ℕ → ℕ → ℕ → R .type .Denot → Type 0) where
   abbrev pub signature : Signature
-  signature =
-      record {
-        lifetimes = 1;
-        outlives = [];
-        params = plain (λ κs. B (namedLft 1 0 tt κs)) ∷ [];
-        result = plain (λ κs. R .type);
-      }
+  signature = lasting (plain (λ κs. B (namedLft 1 0 tt κs)) ∷ []) (λ κs. R .type)
 
   abbrev pub ended : Ended
   ended = record { signature = signature; kept = (yes, tt) }
@@ -124,8 +118,7 @@ module _ (R : Data) (Said : List ℕ → ℕ → ℕ → R .type .Denot → Type
           → ent 𝓤 (⋆ 𝓤 H A (‵ (R .type .own r (v ∷ [])) ∷ (‵ (flft κ q) ⊛ ‵ ftrue) ∷ ‵ Own ∷ [])) (Post v)
       exits r v e =
           qed W (‵ (R .type .own r (v ∷ [])) ∷ (‵ (flft κ q) ⊛ ‵ ftrue) ∷ ‵ Own ∷ []) ∵
-          suffices ! _
-          (ends-at 𝓤 H A ended stayed (clauses 𝓤) W to v r (tt, tt) (tt, tt)) $
+          suffices ! _ (ends-at 𝓤 H A ended stayed (clauses 𝓤) W to v r (tt, tt) (tt, tt)) $
           says ! e $ move ! (1 ∷ []) $ frame ! $ nothing ! $ move ! (2 ∷ 0 ∷ []) $ fjoin ! $ frame ! $ done !
 
       -- ---- the walk

@@ -6,15 +6,15 @@ use mathlib.Core.List.{List, [], _∷_, _++_}
 use lib.ListN.{length, drop, replicate, drop-of-length-le}
 use lib.Seq.{drop-cons}
 use lib.Dec.{ltb}
-use borrow.Author.Tests.{ltb-true, ltb-false, lt-ltb, le-ltb}
+use borrow.Author.Tests.{ltb-true, ltb-false}
 use denote.Ref.{RefT, now}
 use Rattle.judging.specs.Log.{Verdict, Reads}
 use Rattle.lists.proofs.Testing.{tested}
 use Rattle.rule.specs.Calls.{drain}
-use Rattle.log.specs.Records.{askedTimes, rowList, rowAt, found}
-use Rattle.log.proofs.Rows.{row-list-length, row-list-at}
+use Rattle.log.specs.Records.{askedTimes, rowList, found}
+use Rattle.log.proofs.Rows.{row-list-length, row-list-at, found-row, found-none}
 use Rattle.log.specs.declared.Found.{Found}
-use Rattle.log.specs.declared.Found.the-variants.{Row, End}
+use Rattle.log.specs.declared.Found.the-variants.{End}
 use Rattle.places.specs.Places.{rowNumber, Reached, firstBlock}
 use Rattle.places.proofs.Places.{first-reached, first-stands, taking}
 use Rattle.reader.specs.declared.Reader.{Reader}
@@ -30,14 +30,10 @@ unfoldable foundFrom : List ℕ → ℕ → ℕ → List Found
 foundFrom log n zero = []
 foundFrom log n (suc m) = found log n ∷ foundFrom log (n + 1) m
 
-found-none : (log : List ℕ) (n : ℕ) → length (askedTimes log) ≤ n → found log n ≡ End
-unfolding found
-found-none log n h = rw (le-ltb n (length (askedTimes log)) h)
-
 from-none : (log : List ℕ) (n m : ℕ) → length (askedTimes log) ≤ n → foundFrom log n m ≡ replicate m End
 unfolding foundFrom
 from-none log n zero h = refl
-from-none log n (suc m) h = rw (found-none log n h, from-none log (n + 1) m (omega arith))
+from-none log n (suc m) h = rw (← found-none log n h, from-none log (n + 1) m (omega arith))
 
 -- a reader on the log, before record r of block b
 abbrev on : RefT (List ℕ) → ℕ → ℕ → Reader
@@ -49,7 +45,12 @@ unfolding nexts
 nexts-none log b r zero low s h = refl
 nexts-none log b r (suc m) low s h =
     let t = taking (now log) b r low s in
-    rw (t .finds ∙ found-none (now log) (rowNumber b r) h, t .stays h .0, t .stays h .1, nexts-none log b r m low s h)
+    rw (
+      t .finds ∙ sym (found-none (now log) (rowNumber b r) h),
+      t .stays h .0,
+      t .stays h .1,
+      nexts-none log b r m low s h,
+    )
 
 nexts-from : (log : RefT (List ℕ)) (b r m : ℕ) → 0 < b → Reached (now log) b r
     → nexts (on log b r) m ≡ foundFrom (now log) (rowNumber b r) m
@@ -66,10 +67,6 @@ nexts-from log b r (suc m) low s =
     nexts-none log b r (suc m) low s h ∙ sym (from-none (now log) n (suc m) h))
 
 module _ (log : List ℕ) (reads : Reads log) where
-  found-row : (n : ℕ) → n < length (askedTimes log) → found log n ≡ Row (rowAt log n)
-  unfolding found
-  found-row n h = rw (lt-ltb n (length (askedTimes log)) h)
-
   from-rows : (n j k : ℕ) → n + j ≡ length (rowList log)
       → foundFrom log n (j + k) ≡ foundRows (drop n (rowList log)) ++ replicate k End
   unfolding foundFrom foundRows
@@ -88,13 +85,13 @@ module _ (log : List ℕ) (reads : Reads log) where
         z,
         drop-cons (rowList log) n drain (omega arith),
         row-list-at log reads n drain h,
-        found-row n h,
+        ← found-row log n h,
         y,
         from-rows (suc n) j k (omega arith),
       )
 
--- "knows its next record; after the last it says that there is none, and stays": from an opening all rows of the log are
--- found, in their order, and after them no more, however often
+-- "knows its next record; after the last it says that there is none, and stays": from an opening all rows of the log
+-- are found, in their order, and after them no more, however often
 pub nexts-all : (log : RefT (List ℕ)) → Reads (now log) → (k : ℕ)
     → nexts (opened log) (length (rowList (now log)) + k) ≡ foundRows (rowList (now log)) ++ replicate k End
 nexts-all log reads k =

@@ -11,24 +11,19 @@ use Rattle.judging.proofs.Unique.{told-determined}
 use Rattle.reader.specs.Reading.{OpenedOn, Stepped, FirstOf}
 use Rattle.reader.specs.declared.Reader.{Reader}
 
-pub opened-determined : (log : RefT (List ℕ))
-    → Determined (OpenedOn log)
+pub opened-determined : (log : RefT (List ℕ)) → Determined (OpenedOn log)
 opened-determined log x y p q =
     λ i. record {
-      verdict =
-          told-determined (judged (now log)) (x .verdict) (y .verdict) (p .verdict) (q .verdict) i;
+      verdict = told-determined (judged (now log)) (x .verdict) (y .verdict) (p .verdict) (q .verdict) i;
       reader = (p .reader ∙ sym (q .reader)) i;
     }
 
-pub first-determined : (log : List ℕ)
-    → Determined (FirstOf log)
+pub first-determined : (log : List ℕ) → Determined (FirstOf log)
 first-determined log x y p q =
     λ i. record {
-      verdict =
-          told-determined (judged log) (x .verdict) (y .verdict) (p .verdict) (q .verdict) i;
+      verdict = told-determined (judged log) (x .verdict) (y .verdict) (p .verdict) (q .verdict) i;
       found = (p .found ∙ sym (q .found)) i;
     }
 
-pub next-determined : (reader : Reader)
-    → Determined (λ (r : Found × Reader). Stepped reader (r .0) (r .1))
+pub next-determined : (reader : Reader) → Determined (λ (r : Found × Reader). Stepped reader (r .0) (r .1))
 next-determined reader x y p q = λ i. ((p .found ∙ sym (q .found)) i, (p .after ∙ sym (q .after)) i)

@@ -48,7 +48,8 @@ module _ {M : Type 1} {𝓤 : URA M} {H : Heap 𝓤} {A : Atoms 𝓤} {K : Type 
             (via 𝓤 (sep 𝓤 (H .room τ b zero) (⋆ 𝓤 H A rest)) (monoL 𝓤 (⋆ 𝓤 H A rest) (W .laws .at-room τ b zero v))
             (via 𝓤 (sep 𝓤 (H .room τ b zero) (sep 𝓤 (H .dies τ b) (⋆ 𝓤 H A left)))
             (monoR 𝓤 (H .room τ b zero)
-            (subst (λ (j : Item 𝓤). ent 𝓤 (⋆ 𝓤 H A rest) (sep 𝓤 (mean 𝓤 H A j) (⋆ 𝓤 H A left))) dies (pull 𝓤 H A m rest)))
+            (subst (λ (j : Item 𝓤). ent 𝓤 (⋆ 𝓤 H A rest) (sep 𝓤 (mean 𝓤 H A j) (⋆ 𝓤 H A left))) dies
+            (pull 𝓤 H A m rest)))
             (via 𝓤 (sep 𝓤 (sep 𝓤 (H .room τ b zero) (H .dies τ b)) (⋆ 𝓤 H A left))
             (assoc′ 𝓤 (H .room τ b zero) (H .dies τ b) (⋆ 𝓤 H A left))
             (monoR 𝓤 (sep 𝓤 (H .room τ b zero) (H .dies τ b)) (s .prf)))));

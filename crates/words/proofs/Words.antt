@@ -1,6 +1,5 @@
--- Laws of `word`, `words` and `check`. In order: a word of a part is a word of the whole; a word past the end; the
--- sum of the
--- words, one word more; a sum kept modulo 2 ^ 32 is the check. Assumes nothing.
+-- Laws of `word`, `words` and `check`. In order: a word of a part is a word of the whole; a word past the end; a word
+-- that is 0; the sum of the words, one word more; a sum kept modulo 2 ^ 32 is the check. Assumes nothing.
 use Prim.Native.Nat.{ℕ, zero, suc, _+_, _*_, _%_, _≤_, _<_}
 use native.Mathlib.Omega.{arith}
 use native.Mathlib.Nat.{add-assoc, suc-add}

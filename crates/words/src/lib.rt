@@ -2,7 +2,6 @@
 ghost use mathlib.Core.Path.{_≡_};
 ghost use Prim.Native.Nat.{_+_, _<_};
 ghost use lib.ListN.{length};
-ghost use Rattle.lists.specs.Lists.{at};
 ghost use Rattle.words.specs.Words.{word, check};
 
 // A byte as a word, told with its bound, so that a sum of four bytes asks for nothing more.

@@ -1,6 +1,6 @@
 -- `judging::judge` meets its contract: the length, then the blocks. Assumes nothing.
 use native.Mathlib.Omega.{arith}
-use borrow.Author.Tests.{eq-eqb, ne-eqb, le-leb, lt-leb, lt-ltb, le-ltb}
+use borrow.Author.Tests.{eq-eqb, ne-eqb, le-leb, lt-leb}
 use denote.Ref.{now}
 use Prim.Native.Nat.{_/_, _%_}
 use lib.ListN.{length}

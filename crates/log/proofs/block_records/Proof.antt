@@ -1,9 +1,8 @@
 -- `log::block_records` meets its contract: a block that may be asked for lies inside the log, with at most 41
 -- records. Assumes nothing.
 use native.Mathlib.Omega.{arith}
-use borrow.Author.Tests.{eq-eqb, ne-eqb, le-leb, lt-leb, lt-ltb, le-ltb}
 use denote.Ref.{now}
-use mathlib.Core.Path.{_≡_, refl, sym, ap, _∙_}
+use mathlib.Core.Path.{_≡_, sym, ap, _∙_}
 use Rattle.judging.specs.Log.{accepted, told}
 use Rattle.log.specs.Records.{blockAsked}
 use Rattle.log.proofs.Asking.{Had, asked-had, stretch-given, stretch-refused}

@@ -1,7 +1,6 @@
 -- `log::record_count` meets its contract: the last block's records stand after full blocks. Assumes nothing.
 use native.Mathlib.Omega.{arith}
-use denote.Ref.{now}
-use mathlib.Core.Path.{_≡_, refl, sym, ap, _∙_}
+use mathlib.Core.Path.{sym}
 use Rattle.log.proofs.Rows.{column-none, column-some}
 use borrow.Author.Needs.{needs}
 use Rattle.log.proofs.record_count.Statement.{statement}

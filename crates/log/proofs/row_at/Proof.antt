@@ -1,7 +1,6 @@
 -- `log::row_at` meets its contract: row i stands in block 1 + i / 41. Assumes nothing.
 use native.Mathlib.Omega.{arith}
 use denote.Ref.{now}
-use mathlib.Core.Path.{_≡_, refl, sym, ap, _∙_}
 use Prim.Native.Nat.{_+_, _≤_}
 use lib.ListN.{length}
 use Rattle.log.proofs.Rows.{row-past, rowPlace, row-inside, row-here}
@@ -10,12 +9,8 @@ use Rattle.log.proofs.row_at.Statement.{statement}
 use Rattle.log.proofs.row_at.Tie as tie
 
 inside : (c : tie.Else1)
-    → rowPlace
-    (now (c .before .before .before .args .log))
-    (c .before .before .before .pre)
-    (c .before .before .before .args .i)
-    + 12
-    ≤ length (now (c .before .before .before .args .log))
+    → let s = c .before .before .before in
+    rowPlace (now (s .args .log)) (s .pre) (s .args .i) + 12 ≤ length (now (s .args .log))
 inside c = row-inside _ (c .before .before .before .pre) _ (omega arith)
 
 returns : tie.Need-returns

@@ -1,34 +1,28 @@
 -- `log::setup_of` meets its contract: the words and the stretch of block 0 that its definition names, whose
 -- setup is accepted. Assumes nothing.
 use native.Mathlib.Omega.{arith}
-use Prim.Native.Nat.{ℕ}
-use mathlib.Core.Path.{_≡_, subst}
-use mathlib.Core.List.{List}
+use mathlib.Core.Path.{subst}
 use borrow.Author.Needs.{needs}
-use Rattle.rule.specs.Setups.{asked}
 use Rattle.rule.specs.declared.Setup.{Setup}
 use Rattle.setups.specs.Judging.{Judges}
 use Rattle.setups.proofs.Judging.{judged-accepted}
-use Rattle.judging.specs.Blocks.{setupIn}
+use Rattle.judging.proofs.Blocks.{setup-read}
 use Rattle.judging.proofs.Accepted.{accepted-sized}
 use Rattle.log.proofs.Setups.{accepted-setup}
 use Rattle.log.proofs.setup_of.Statement.{statement}
 use Rattle.log.proofs.setup_of.Tie as tie
 
-asked-equal : {p n s p′ n′ s′ : ℕ} {l : List ℕ} → p ≡ p′ → n ≡ n′ → s ≡ s′ → asked p n s l ≡ asked p′ n′ s′ l
-asked-equal ep en es = cc
-
 part-first-end : tie.Need-part-first-end
 part-first-end c = omega (arith, accepted-sized _ (c .before .pre))
 
 returns : tie.Need-returns
-unfolding setupIn
 returns c =
     let words = c .before .before .before in
     let start = words .before .before .before .before .before in
-    let e = asked-equal (words .before .before .word-at .ensures) (words .before .word-at2 .ensures)
+    let e = setup-read _ (words .before .before .word-at .ensures) (words .before .word-at2 .ensures)
     (words .word-at3 .ensures) in
-    judged-accepted (subst (λ (p : Setup). Judges p (c .before .judged-setup .result)) e (c .before .judged-setup .ensures))
+    let judged = c .before .judged-setup in
+    judged-accepted (subst (λ (p : Setup). Judges p (judged .result)) e (judged .ensures))
     (accepted-setup _ (start .pre))
 
 pub setup-of-spec : {M : Type 1} → statement M

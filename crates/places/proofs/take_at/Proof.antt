@@ -1,7 +1,8 @@
 -- `places::take_at` meets its contract: at a place that is reached the count of its block says whether a record is
 -- there. Assumes nothing.
 use native.Mathlib.Omega.{arith}
-use Prim.Native.Nat.{_≤_, _<_}
+use Prim.Native.Nat.{ℕ, _≤_, _<_}
+use mathlib.Core.List.{List}
 use mathlib.Core.Logic.{⊎-elim}
 use borrow.Author.Needs.{needs}
 use borrow.Author.Tests.{leb-true, leb-false}
@@ -11,33 +12,51 @@ use Rattle.judging.specs.Blocks.{blocks}
 use Rattle.log.specs.Records.{askedTimes}
 use Rattle.places.specs.Places.{rowNumber, Reached}
 use Rattle.places.proofs.Places.{has-row-zero, has-row-past, has-row-counted, has-row-over, block-few}
-use Rattle.places.proofs.Places.{taken-none, row-taken, taken-last, taken-next}
+use Rattle.places.proofs.Places.{taken-none, RowRead, row-read, taken-last, taken-next}
 use Rattle.places.proofs.take_at.Statement.{statement}
 use Rattle.places.proofs.take_at.Tie as tie
 
--- the places: past the test of the block; past that of its count
-low : (c : tie.Else2) → 0 < c .before .before .before .args .block
+-- the places: past the test of the block; past that of its count; the record is read
+abbrev logAt : tie.Else2 → List ℕ
+logAt c = now (c .before .before .before .args .log)
+
+abbrev blockAt : tie.Else2 → ℕ
+blockAt c = c .before .before .before .args .block
+
+abbrev recordAt : tie.Else2 → ℕ
+recordAt c = c .before .before .before .args .«record»
+
+low : (c : tie.Else2) → 0 < blockAt c
 low c = omega (arith, c .before .if1 .left)
 
-reached : (c : tie.Else2)
-    → Reached (now (c .before .before .before .args .log)) (c .before .before .before .args .block)
-    (c .before .before .before .args .«record»)
+reached : (c : tie.Else2) → Reached (logAt c) (blockAt c) (recordAt c)
 reached c = c .before .before .before .pre (low c)
 
-inside : (c : tie.Else2)
-    → c .before .before .before .args .block < blocks (now (c .before .before .before .args .log))
+inside : (c : tie.Else2) → blockAt c < blocks (logAt c)
 inside c = leb-false _ _ (c .if2 .left)
 
-few : (c : tie.Else2) → c .before .before .before .args .block ≤ 26
+few : (c : tie.Else2) → blockAt c ≤ 26
 few c = block-few _ _ _ (low c) (reached c)
 
 row : (c : tie.Else3)
-    → rowNumber (c .before .before .before .before .before .args .block) (c .before .before .before .before .before
-    .args .«record»)
-    < length (askedTimes (now (c .before .before .before .before .before .args .log)))
+    → let p = c .before .before in rowNumber (blockAt p) (recordAt p) < length (askedTimes (logAt p))
 row c =
-    has-row-counted _ _ _ (low (c .before .before)) (reached (c .before .before)) (inside (c .before .before))
-    (omega (arith, c .if3 .left, c .before .word-at .ensures))
+    let p = c .before .before in
+    has-row-counted _ _ _ (low p) (reached p) (inside p) (omega (arith, c .if3 .left, c .before .word-at .ensures))
+
+read : (c : tie.After-word-at4)
+    → let p = c .before .before .before .before .before in
+    RowRead (logAt p) (blockAt p) (recordAt p)
+    (record {
+      time = c .before .before .word-at2 .result;
+      task = c .before .word-at3 .result;
+      amount = c .word-at4 .result;
+    })
+read c =
+    let w = c .before .before .before in
+    let p = w .before .before in
+    row-read _ _ _ _ _ _ (low p) (reached p) (row w) (c .before .before .word-at2 .ensures)
+    (c .before .word-at3 .ensures) (c .word-at4 .ensures)
 
 returns : tie.Need-returns
 returns c =
@@ -58,8 +77,7 @@ returns-2 : tie.Need-returns-2
 returns-2 c =
     let p = c .before .before in
     taken-none _ _ _
-    (has-row-over _ _ _ (low p) (reached p) (inside p)
-    (omega (arith, c .if3 .taken, c .before .word-at .ensures)))
+    (has-row-over _ _ _ (low p) (reached p) (inside p) (omega (arith, c .if3 .taken, c .before .word-at .ensures)))
 
 mul-place : tie.Need-mul-place
 mul-place c = omega (arith, few (c .before .before))
@@ -68,7 +86,7 @@ add-place : tie.Need-add-place
 add-place c = omega (arith, few (c .before .before))
 
 add-place-2 : tie.Need-add-place-2
-add-place-2 c = omega (arith, few (c .before .before), reached (c .before .before) .few)
+add-place-2 c = let p = c .before .before in omega (arith, few p, reached p .few)
 
 add-word-at-2 : tie.Need-add-word-at-2
 add-word-at-2 c = let p = c .before .before .before in omega (arith, few p, reached p .few)
@@ -80,22 +98,10 @@ add-t20 : tie.Need-add-t20
 add-t20 c = omega (arith, few (c .before .before .before .before .before .before))
 
 returns-3 : tie.Need-returns-3
-returns-3 c =
-    let w = c .before in
-    let p = w .before .before .before in
-    taken-last _ _ _ (low (p .before .before)) (reached (p .before .before)) (row p) _
-    (row-taken _ _ _ (low (p .before .before)) (reached (p .before .before)) (row p) _ _ _
-    (w .before .before .word-at2 .ensures) (w .before .word-at3 .ensures) (w .word-at4 .ensures))
-    (c .if4 .taken)
+returns-3 c = taken-last (read (c .before)) (c .if4 .taken)
 
 returns-4 : tie.Need-returns-4
-returns-4 c =
-    let w = c .before in
-    let p = w .before .before .before in
-    taken-next _ _ _ (low (p .before .before)) (reached (p .before .before)) (row p) _
-    (row-taken _ _ _ (low (p .before .before)) (reached (p .before .before)) (row p) _ _ _
-    (w .before .before .word-at2 .ensures) (w .before .word-at3 .ensures) (w .word-at4 .ensures))
-    (c .if4 .left)
+returns-4 c = taken-next (read (c .before)) (c .if4 .left)
 
 pub take-at-spec : {M : Type 1} → statement M
 take-at-spec =

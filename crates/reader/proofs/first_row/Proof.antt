@@ -20,25 +20,22 @@ use types.Run.{look, init, stop, fld, from, load, of-opd, and-then, no-more, ass
 use types.Run.{alloc0, params1, pass1, pass0, free0}
 use sound.WpLaws.{FmC, fmOf}
 use denote.RattleType.{RattleType}
-use denote.Laws.{Is, shows}
+use denote.Laws.{Is}
 use denote.Builtin.{u8}
 use denote.Ref.{RefT, NamedLft, now}
 use denote.Signature.{namedLft}
 use denote.Slice.{ShrSlice, shr-slice-lawful}
-use denote.Steps.{only, owned, peeks}
-use denote.Enum.Laws as EL
+use denote.Steps.{only, owned}
 use denote.Struct.Laws as LL
 use denote.Struct.Rest.{all-own, own-open}
 use denote.Triple.Statement.{Triple}
 use denote.Triple.Call.{calls-at}
 use denote.Triple.Table.{entered, cited}
-use Rattle.places.specs.Places.{takenAt}
 use Rattle.reader.specs.Reading.{takenBy, opened, Standing, OpenedOn, FirstOf}
 use Rattle.reader.specs.declared.First.{First}
 use Rattle.reader.specs.declared.Opened.{Opened}
 use Rattle.reader.specs.declared.Reader.{Reader}
 use Rattle.log.specs.declared.Found.{Found}
-use Rattle.judging.specs.declared.Judged.{Judged}
 use Rattle.reader.proofs.First as F
 use Rattle.reader.proofs.First.Laws as F′
 use Rattle.reader.proofs.Opened as O
@@ -47,13 +44,12 @@ use Rattle.reader.proofs.Reader as T
 use Rattle.reader.proofs.Reader.Laws as T′
 use Rattle.log.proofs.Found as S
 use Rattle.log.proofs.Found.Laws as S′
-use Rattle.walk_laws.proofs.Data.{Data, enum}
+use Rattle.walk_laws.proofs.Data.{typed-at}
 use Rattle.reader.proofs.Walks.{answers, gone}
-use Rattle.reader.proofs.Take.{B, slice-of}
+use Rattle.reader.proofs.Take.{B, slice-of, SliceOwn, known-at, foundData, Finds}
 use Rattle.reader.proofs.Slices as on
+use Rattle.reader.proofs.Slices.{openedRow, Opens, judgedData}
 use Rattle.reader.proofs.Fields as peek
-use Rattle.judging.proofs.Judged as E
-use Rattle.judging.proofs.Judged.Laws as E′
 use Rattle.reader.proofs.Steps.{opened-stands}
 use Rattle.reader.proofs.open_log.Symbol as opens-def
 use Rattle.reader.proofs.open_log.Met as opens-thm
@@ -63,28 +59,15 @@ use Rattle.reader.proofs.first_row.Key as key
 use Rattle.reader.proofs.first_row.Statement as stated
 use Rattle.reader.proofs.first_row.Code as code
 
-abbrev rowO : Lfts 1 → RattleType
-rowO κs = O.the-row (namedLft 1 0 tt κs)
-
-abbrev rowF : Lfts 1 → RattleType
-rowF κs = F.the-row
-
-abbrev found : Data
-found = enum S.the-type S′.the-laws S′.the-plain tt (λ x. tt) (λ x f. refl)
-
--- what `open_log` and `peek` say, and what is said of the first record
-abbrev Opens : Lfts 1 → RefT (List ℕ) → Opened → Type 0
-Opens κs s o = OpenedOn s o
-
-abbrev Peeks : List ℕ → ℕ → ℕ → Found → Type 0
-Peeks log b r f = f ≡ takenAt log b r .found
+abbrev firstRow : Lfts 1 → RattleType
+firstRow κs = F.the-row
 
 abbrev Firsts : Lfts 1 → RefT (List ℕ) → First → Type 0
 Firsts κs s f = FirstOf (now s) f
 
 -- what is known of the parts of an opening
-verdict-is : (α : NamedLft) (o : Opened) (vs : List Val) → Is (O.the-row α) o vs → Is E.the-row (o .verdict)
-    (EL.vals E.the-type E′.the-laws (o .verdict))
+verdict-is : (α : NamedLft) (o : Opened) (vs : List Val) → Is (O.the-row α) o vs
+    → Is (judgedData .type) (o .verdict) (judgedData .val (o .verdict) ∷ [])
 verdict-is α o vs is = LL.owed (O.the-type α) (O′.the-laws α) o vs is .0
 
 reader-is : (α : NamedLft) (o : Opened) (vs : List Val) → Is (O.the-row α) o vs
@@ -103,85 +86,89 @@ module _ {M : Type 1} (𝓤 : URA M) (H : Heap 𝓤) (A : Atoms 𝓤) (W : Given
   stands-of : {r : Reader} → r ≡ opened s → Standing r
   stands-of e = subst Standing (sym e) (opened-stands s)
 
-  abbrev made : Judged → Found → First
-  made w t = record { verdict = w; found = t }
+  -- the calls, and what is made of their answers
+  abbrev opens : on.On openedRow Opens 𝓤 H A .Ghost
+  opens = on.to openedRow Opens 𝓤 H A W κ q s
 
-  made-is : (w : Judged) (t : Found) → Is E.the-row w (EL.vals E.the-type E′.the-laws w)
-      → Is S.the-row t (EL.vals S.the-type S′.the-laws t) → Is F.the-row (made w t) (LL.vals F.the-type F′.the-laws
-      (made w t))
-  made-is w t isE isS = LL.owes F.the-type F′.the-laws (made w t) (isE, (isS, tt))
+  abbrev looks : Reader → peek.Of foundData Finds 𝓤 H A .Ghost
+  looks d = peek.to foundData Finds 𝓤 H A W κ q d
+
+  abbrev made : Opened → Found → First
+  made o t = record { verdict = o .verdict; found = t }
+
+  made-is : (o : Opened) (t : Found) (u v : Val) → Is (O.the-row α) o (u ∷ []) → Is S.the-row t (v ∷ [])
+      → Is F.the-row (made o t) (LL.vals F.the-type F′.the-laws (made o t))
+  made-is o t u v is isT =
+      LL.owes F.the-type F′.the-laws (made o t) (verdict-is α o _ is, (known-at foundData t v isT, tt))
 
   module _ (C : Calls 𝓤 H) (Λ : Loops 𝓤 H) (fm : FmC 𝓤 H (W .laws) C)
-      (known-opens : Triple 𝓤 (C opens-def.name) (on.On rowO Opens 𝓤 H A))
-      (known-peek : Triple 𝓤 (C peek-def.name) (peek.Of found Peeks 𝓤 H A)) where
-    walk : ent 𝓤 (on.Enters rowF Firsts 𝓤 H A W κ q s)
-        (WpFn 𝓤 H C Λ code.function (slice-of s ∷ []) (on.Post rowF Firsts 𝓤 H A W κ q s))
+      (known-opens : Triple 𝓤 (C opens-def.name) (on.On openedRow Opens 𝓤 H A))
+      (known-peek : Triple 𝓤 (C peek-def.name) (peek.Of foundData Finds 𝓤 H A)) where
+    walk : ent 𝓤 (on.Enters firstRow Firsts 𝓤 H A W κ q s)
+        (WpFn 𝓤 H C Λ code.function (slice-of s ∷ []) (on.Post firstRow Firsts 𝓤 H A W κ q s))
     walk =
-        qed W (raw (on.Enters rowF Firsts 𝓤 H A W κ q s) ∷ []) ∵
+        qed W (raw (on.Enters firstRow Firsts 𝓤 H A W κ q s) ∷ []) ∵
         enter ! C Λ code.function (slice-of s ∷ []) _ $
         alloc1 ! (λ l₀. alloc1 ! (λ l₁. alloc1 ! (λ l₂. alloc1 ! (λ l₃. alloc1 ! (λ l₄. alloc1 ! (λ l₅. alloc0 ! $
         params1 ! $ pass1 ! (init ! 8 refl (shr-slice-lawful 𝓤 H A W (named 0) κ u8 .typed s (slice-of s ∷ []) p .0)) $
         pass0 ! $
-        move ! (12 ∷ []) $ use1 W (raw (on.On rowO Opens 𝓤 H A .pre (on.to rowO Opens 𝓤 H A W κ q s)) ⊛ ‵ (on.Own κ s))
-        (on.goes rowO Opens 𝓤 H A W κ q s) $ split ! $
-        calls-at ! fm (on.On rowO Opens 𝓤 H A) known-opens (on.to rowO Opens 𝓤 H A W κ q s)
-        (and-then ! (load ! (from ! (stop !))
-        (look ! 10 refl)) (no-more !)) (λ u.
-        answers ! tt (O.the-row α) κ q (λ (o : Opened). OpenedOn s o) (on.said rowO Opens 𝓤 H A W κ q s) u (λ o e is.
+        move ! (12 ∷ []) $ use1 W (raw (on.On openedRow Opens 𝓤 H A .pre opens) ⊛ ‵ (SliceOwn κ s))
+        (on.goes openedRow Opens 𝓤 H A W κ q s) $ split ! $
+        calls-at ! fm (on.On openedRow Opens 𝓤 H A) known-opens opens
+        (and-then ! (load ! (from ! (stop !)) (look ! 10 refl)) (no-more !)) (λ u.
+        answers ! tt (O.the-row α) κ q (OpenedOn s) (on.said openedRow Opens 𝓤 H A W κ q s) u (λ o e is.
         -- [what the opening owns; the token; what s owns; _5; …; _4; …; _3; …; _2; …; _1; …; room for _0; …]
-        land ! (from ! (stop !)) (init ! 9 refl (LL.lawful (O.the-type αᵉ) (O′.the-laws αᵉ) 𝓤 H A W .typed o _ is .0)) $
-        rewrite ! 0 (λ (us : List Val). ‵ (O.the-row α .own o us)) (LL.tells (O.the-type α) (O′.the-laws α) o
-        (u ∷ []) is) refl $ rewrite ! 9 (λ (w : Val). ‵ (fat fullShare (O′.mir erased) l₂ 0 w))
+        land ! (from ! (stop !))
+        (init ! 9 refl (LL.lawful (O.the-type αᵉ) (O′.the-laws αᵉ) 𝓤 H A W .typed o _ is .0)) $
+        rewrite ! 0 (λ (us : List Val). ‵ (O.the-row α .own o us))
+        (LL.tells (O.the-type α) (O′.the-laws α) o (u ∷ []) is) refl $
+        rewrite ! 9 (λ (w : Val). ‵ (fat fullShare (O′.mir erased) l₂ 0 w))
         (ap only (LL.tells (O.the-type α) (O′.the-laws α) o (u ∷ []) is)) refl $
         assigns ! (of-opd ! (load ! (from ! (fld ! refl (stop !))) (look-in ! 9 (sub ! 0 refl (whole !)))))
-        (from ! (stop !)) (init ! 7 refl (EL.lawful E.the-type E′.the-laws 𝓤 H A W tt .typed (o .verdict) _
-        (verdict-is α o _ is) .0)) $
+        (from ! (stop !)) (init ! 7 refl (judgedData .typed 𝓤 H A W (o .verdict) (verdict-is α o _ is))) $
         assigns ! (of-opd ! (load ! (from ! (fld ! refl (stop !))) (look-in ! 9 (sub ! 1 refl (whole !)))))
-        (from ! (stop !)) (init ! 3 refl (LL.lawful (T.the-type αᵉ) (T′.the-laws αᵉ) 𝓤 H A W .typed (o .reader) _
-        (reader-is α o _ is) .0)) $
+        (from ! (stop !))
+        (init ! 3 refl (LL.lawful (T.the-type αᵉ) (T′.the-laws αᵉ) 𝓤 H A W .typed (o .reader) _ (reader-is α o _ is)
+        .0)) $
         -- what the opening owns is taken apart, and what its reader owns goes to `peek`
         use1 W (given (LL.vals (O.the-type α) (O′.the-laws α) o ≡ LL.vals (O.the-type α) (O′.the-laws α) o)
-        (‵ (all-own (O.the-type α .parts) (O′.the-laws α) (o .verdict, (o .reader, tt))))) (own-open 𝓤 H A W
-        (O.the-type α) (O′.the-laws α) (o .verdict, (o .reader, tt)) (LL.val (O.the-type α) (O′.the-laws α) o)) $
+        (‵ (all-own (O.the-type α .parts) (O′.the-laws α) (o .verdict, (o .reader, tt)))))
+        (own-open 𝓤 H A W (O.the-type α) (O′.the-laws α) (o .verdict, (o .reader, tt))
+        (LL.val (O.the-type α) (O′.the-laws α) o)) $
         learn ! (λ _.
         fsplit ! $ drop ! $ fsplit ! $ move ! (0 ∷ 2 ∷ []) $
-        use2 W (raw (peek.Of found Peeks 𝓤 H A .pre (peek.to found Peeks 𝓤 H A W κ q (o .reader))))
-        (peek.asked found Peeks 𝓤 H A W κ q (o .reader) (stands-of (e .reader))) $
+        use2 W (raw (peek.Of foundData Finds 𝓤 H A .pre (looks (o .reader))))
+        (peek.asked foundData Finds 𝓤 H A W κ q (o .reader) (stands-of (e .reader))) $
         -- [what `peek` asks; true; what s owns; _5; …; _4; …; _3; …; _2; …; _1; …; room for _0; …]
-        calls-at ! fm (peek.Of found Peeks 𝓤 H A) known-peek (peek.to found Peeks 𝓤 H A W κ q (o .reader))
-        (and-then ! (load ! (from ! (stop !))
-        (look ! 3 refl)) (no-more !)) (λ w.
+        calls-at ! fm (peek.Of foundData Finds 𝓤 H A) known-peek (looks (o .reader))
+        (and-then ! (load ! (from ! (stop !)) (look ! 3 refl)) (no-more !)) (λ v.
         answers ! tt S.the-row κ q (λ (t : Found). t ≡ takenBy (o .reader) .found)
-        (peek.said found Peeks 𝓤 H A W κ q (o .reader)) w (λ t e′ isT. rewrite ! 0 (λ (us : List Val). ‵
-        (S.the-row .own t us)) (EL.tells S.the-type S′.the-laws t (w ∷ []) isT) refl $
-        peeks ! S.the-row (Is S.the-row) (shows 𝓤 H A S.the-row) t (EL.vals S.the-type S′.the-laws t) (λ isS. drop ! $
+        (peek.said foundData Finds 𝓤 H A W κ q (o .reader)) v (λ t e′ isT. drop ! $
         -- [the token; true; what s owns; _5; …; room for _4; …; _3; …; _2; …; _1; …; room for _0; …]
-        land ! (from ! (stop !)) (init ! 5 refl (EL.lawful S.the-type S′.the-laws 𝓤 H A W tt .typed t _ isT .0)) $
-        rewrite ! 5 (λ (u′ : Val). ‵ (fat fullShare S′.mir l₄ 0 u′)) (ap only (EL.tells S.the-type S′.the-laws t
-        (w ∷ []) isT)) refl $
-        assigns ! (agg ! (and-then ! (load ! (from ! (stop !)) (look ! 7 refl)) (and-then ! (load ! (from ! (stop !))
-        (look ! 5 refl)) (no-more !)))) (from ! (stop !))
-        (init ! 13 refl (LL.lawful F.the-type F′.the-laws 𝓤 H A W .typed (made (o .verdict) t) _
-        (made-is (o .verdict) t (verdict-is α o _ is) isS) .0)) $
+        land ! (from ! (stop !)) (init ! 5 refl (typed-at foundData 𝓤 H A W t v isT)) $
+        rewrite ! 5 (λ (w : Val). ‵ (fat fullShare S′.mir l₄ 0 w)) (ap only (foundData .tells t (v ∷ []) isT)) refl $
+        assigns ! (agg ! (and-then ! (load ! (from ! (stop !)) (look ! 7 refl))
+        (and-then ! (load ! (from ! (stop !)) (look ! 5 refl)) (no-more !)))) (from ! (stop !))
+        (init ! 13 refl
+        (LL.lawful F.the-type F′.the-laws 𝓤 H A W .typed (made o t) _ (made-is o t u v is isT) .0)) $
         returns ! (look ! 13 refl) $ gone ! 13 13 refl refl $ gone ! 11 11 refl refl $ gone ! 9 9 refl refl $
         gone ! 7 7 refl refl $ gone ! 5 5 refl refl $ gone ! 3 3 refl refl $ free0 ! $
-        owned ! F.the-row (Is F.the-row)
-        (LL.makes F.the-type F′.the-plain 𝓤 H A) (made (o .verdict) t) _
-        (made-is (o .verdict) t (verdict-is α o _ is) isS) $
+        owned ! F.the-row (Is F.the-row) (LL.makes F.the-type F′.the-plain 𝓤 H A) (made o t) _
+        (made-is o t u v is isT) $
         keep ! (0 ∷ 1 ∷ 3 ∷ []) $
-        by ! (on.exits rowF Firsts 𝓤 H A W κ q s (made (o .verdict) t) _
-        record { verdict = e .verdict; found = e′ ∙ ap (λ (r : Reader). takenBy r .found) (e .reader) })))))))))))))
+        by ! (on.exits firstRow Firsts 𝓤 H A W κ q s (made o t) _
+        record { verdict = e .verdict; found = e′ ∙ ap (λ (r : Reader). takenBy r .found) (e .reader) }))))))))))))
 
 pub first-row-spec : {M : Type 1} → stated.statement M
 unfolding code.routine tablesOf
 first-row-spec 𝓤 H 𝓜 𝓖 𝓡 =
     let W : Given 𝓤 H (𝓖 .A) = givenOf 𝓤 H 𝓜 𝓖 in
     let 𝓣 : Tables 𝓤 H = tablesOf 𝓤 H 𝓜 (tables 𝓤 H 𝓜 𝓡 code.env) in
-    entered 𝓤 H (on.On rowF Firsts 𝓤 H (𝓖 .A)) (tables 𝓤 H 𝓜 𝓡 code.env .C) (tables 𝓤 H 𝓜 𝓡 code.env .Λ) key.name
+    entered 𝓤 H (on.On firstRow Firsts 𝓤 H (𝓖 .A)) (tables 𝓤 H 𝓜 𝓡 code.env .C) (tables 𝓤 H 𝓜 𝓡 code.env .Λ) key.name
     code.function (code.unfolded 𝓤 H 𝓜 𝓡)
-    (on.by-walk rowF Firsts 𝓤 H (𝓖 .A) W 𝓣 code.function
+    (on.by-walk firstRow Firsts 𝓤 H (𝓖 .A) W 𝓣 code.function
     (λ κ q s p. walk 𝓤 H (𝓖 .A) W κ q s p (𝓣 .C) (𝓣 .Λ) (fmOf 𝓤 H (W .laws) 𝓣)
-    (cited 𝓤 H (on.On rowO Opens 𝓤 H (𝓖 .A)) 𝓜 𝓡 code.env opens-def.name opens-def.routine
+    (cited 𝓤 H (on.On openedRow Opens 𝓤 H (𝓖 .A)) 𝓜 𝓡 code.env opens-def.name opens-def.routine
     code.calls-reader·open-log (opens-thm.met 𝓤 H 𝓜 𝓖 𝓡))
-    (cited 𝓤 H (peek.Of found Peeks 𝓤 H (𝓖 .A)) 𝓜 𝓡 code.env peek-def.name peek-def.routine
+    (cited 𝓤 H (peek.Of foundData Finds 𝓤 H (𝓖 .A)) 𝓜 𝓡 code.env peek-def.name peek-def.routine
     code.calls-reader·peek (peek-thm.met 𝓤 H 𝓜 𝓖 𝓡))))

@@ -1,7 +1,7 @@
--- `reader::next` meets its contract: a walk of its MIR, by hand. The borrow of the struct is opened, `take_at` is called
--- on the slice and the numbers that lie there, its numbers are stored, and the borrow is closed. What the struct owns is
--- had twice, since it is Copy: one copy goes to the callee, the other is the struct's at its numbers after. The cell
--- behind the reference stands at the raw form of its type. Assumes nothing.
+-- `reader::next` meets its contract: a walk of its MIR, by hand. The borrow of the struct is opened, `take_at` is
+-- called on the slice and the numbers that lie there, its numbers are stored, and the borrow is closed. What the
+-- struct owns is had twice, since it is Copy: one copy goes to the callee, the other is the struct's at its numbers
+-- after. The cell behind the reference stands at the raw form of its type. Assumes nothing.
 use mathlib.Core.Path.{_≡_, refl, ap}
 use Prim.Native.Nat.{ℕ}
 use mathlib.Core.List.{List, [], _∷_}
@@ -32,7 +32,6 @@ use denote.Memory.{mem, cellAt}
 use denote.Ref.{RefT, NamedLft, MutRef, now, ptr-vals, mut-tells}
 use denote.Signature.{Slot, plain, namedLft}
 use denote.Steps.{only, opens, closes, owned, peeks, nothing}
-use denote.Enum.Laws as EL
 use denote.Struct.Laws as LL
 use denote.Struct.Steps.{spelt}
 use denote.Triple.Statement.{Triple}
@@ -49,10 +48,9 @@ use Rattle.reader.proofs.Reader.Laws as T′
 use Rattle.walk_laws.proofs.Calling.{over}
 use Rattle.walk_laws.proofs.Data.{typed-at}
 use Rattle.log.proofs.Found as S
-use Rattle.log.proofs.Found.Laws as S′
 use Rattle.reader.proofs.Walks.{answers, gone}
 use Rattle.reader.proofs.Take as calls
-use Rattle.reader.proofs.Take.{B, Core, rowD, Takes, found-is, block-fits, record-fits}
+use Rattle.reader.proofs.Take.{B, Core, foundData, takenData, Takes, found-is, block-fits, record-fits}
 use Rattle.places.proofs.Taken as D
 use Rattle.places.proofs.Taken.Laws as D′
 use Rattle.places.proofs.take_at.Symbol as take-def
@@ -69,9 +67,9 @@ behind = plain (λ κs. B (namedLft 2 1 tt κs))
 abbrev stayed : Stays (self.ended .signature .params) (self.ended .kept)
 stayed = (stay-ref (0 ∷ []) tt behind, tt)
 
-module _ {M : Type 1} (𝓤 : URA M) (H : Heap 𝓤) (A : Atoms 𝓤) (W : Given 𝓤 H A) (at-mem : Memory
-    → SProp 𝓤) (run : Routine → Fun 𝓤) (κ κ′ : Lft) (q q′ : Share) (bounds : AllOutlive 2 (self.signature .outlives)
-    (κ, (κ′, tt))) (b o : ℕ) (γ : GName) (d : Reader) where
+module _ {M : Type 1} (𝓤 : URA M) (H : Heap 𝓤) (A : Atoms 𝓤) (W : Given 𝓤 H A) (at-mem : Memory → SProp 𝓤)
+    (run : Routine → Fun 𝓤) (κ κ′ : Lft) (q q′ : Share)
+    (bounds : AllOutlive 2 (self.signature .outlives) (κ, (κ′, tt))) (b o : ℕ) (γ : GName) (d : Reader) where
   abbrev α : NamedLft
   α = record { mir = named 1; lft = κ′ }
 
@@ -93,41 +91,36 @@ module _ {M : Type 1} (𝓤 : URA M) (H : Heap 𝓤) (A : Atoms 𝓤) (W : Given
   abbrev after : Taken → Reader
   after t = record { log = d .log; block = t .block; «record» = t .«record» }
 
+  abbrev here : tripleOf 𝓤 H A self.signature (self.spec 𝓤 H A at-mem run) .Ghost
+  here = (((κ, (κ′, tt)), (q, (q′, tt)), bounds, x, at), tt)
+
   abbrev Post : Val → SProp 𝓤
-  Post =
-      walkOf 𝓤 H A self.ended stayed (self.clauses 𝓤 H A at-mem run) .post (
-        (
-          (κ, (κ′, tt)),
-          (q, (q′, tt)),
-          bounds,
-          x,
-          at,
-        ),
-        tt,
-      )
+  Post = walkOf 𝓤 H A self.ended stayed (self.clauses 𝓤 H A at-mem run) .post here
 
-  abbrev to : Core rowD Takes 𝓤 H A .Ghost
-  to = calls.to rowD Takes 𝓤 H A W κ′ q′ d
+  abbrev to : Core takenData Takes 𝓤 H A .Ghost
+  to = calls.to takenData Takes 𝓤 H A W κ′ q′ d
 
-  exits : (t : Taken) → t ≡ taken → Is S.the-row (t .found) (EL.vals S.the-type S′.the-laws (t .found))
-      → ent 𝓤 (⋆ 𝓤 H A (‵ (fobs γ (R .coded .code (after t))) ∷ ‵ (fbor κ (Body (mem R) b o γ)) ∷ ‵ (flft κ q) ∷ (‵
-      (flft κ′ q′) ⊛ ‵ ftrue) ∷ [])) (Post (EL.val S.the-type S′.the-laws (t .found)))
+  exits : (t : Taken) → t ≡ taken → Is S.the-row (t .found) (foundData .val (t .found) ∷ [])
+      → ent 𝓤
+      (⋆ 𝓤 H A (‵ (fobs γ (R .coded .code (after t))) ∷ ‵ (fbor κ (Body (mem R) b o γ)) ∷ ‵ (flft κ q)
+      ∷ (‵ (flft κ′ q′) ⊛ ‵ ftrue) ∷ []))
+      (Post (foundData .val (t .found)))
   exits t e is =
-      qed W (‵ (fobs γ (R .coded .code (after t))) ∷ ‵ (fbor κ (Body (mem R) b o γ)) ∷ ‵ (flft κ q) ∷ (‵
-      (flft κ′ q′) ⊛ ‵ ftrue) ∷ []) ∵
-      suffices ! _ (ends-at 𝓤 H A self.ended stayed (self.clauses 𝓤 H A at-mem run) W
-      (((κ, (κ′, tt)), (q, (q′, tt)), bounds, x, at), tt) _ (t .found) (after t, tt) (tt, tt)) $
+      qed W (‵ (fobs γ (R .coded .code (after t))) ∷ ‵ (fbor κ (Body (mem R) b o γ)) ∷ ‵ (flft κ q)
+      ∷ (‵ (flft κ′ q′) ⊛ ‵ ftrue) ∷ []) ∵
+      suffices ! _
+      (ends-at 𝓤 H A self.ended stayed (self.clauses 𝓤 H A at-mem run) W here _ (t .found) (after t, tt) (tt, tt)) $
       says ! (record { found = ap (λ (y : Taken). y .found) e; after = ap after e }) $
       move ! (2 ∷ 3 ∷ []) $ join ! $ frame ! $ feqI ! (List Val) (vptr b o ∷ []) (vptr b o ∷ []) refl $ fjoin3 ! $
       nothing ! $ move ! (1 ∷ 0 ∷ []) $ fjoin ! $
-      owned ! S.the-row (Is S.the-row) (EL.makes S.the-type S′.the-plain 𝓤 H A) (t .found) _ is $
+      owned ! S.the-row (Is S.the-row) (foundData .makes 𝓤 H A W) (t .found) _ is $
       move ! (1 ∷ 0 ∷ []) $ done !
 
   wt : Is R d (mach ∷ []) → Holds (hasTy (T′.mir (named 1)) mach) × WT mach
   wt was = LL.lawful (T.the-type α) (T′.the-laws α) 𝓤 H A W .typed d _ was .0
 
-  module _ (C : Calls 𝓤 H) (Λ : Loops 𝓤 H) (fm : FmC 𝓤 H (W .laws) C) (known : Triple 𝓤 (C take-def.name)
-      (Core rowD Takes 𝓤 H A)) where
+  module _ (C : Calls 𝓤 H) (Λ : Loops 𝓤 H) (fm : FmC 𝓤 H (W .laws) C)
+      (known : Triple 𝓤 (C take-def.name) (Core takenData Takes 𝓤 H A)) where
     walk : Standing d → ent 𝓤 (onEntry 𝓤 H A self.signature (κ, (κ′, tt)) (q, (q′, tt)) x at)
         (WpFn 𝓤 H C Λ code.function (vptr b o ∷ []) Post)
     walk stands =
@@ -150,18 +143,19 @@ module _ {M : Type 1} (𝓤 : URA M) (H : Heap 𝓤) (A : Atoms 𝓤) (W : Given
         (whole !))))) (from ! (stop !)) (init ! 8 refl (tt, wt was .1 .1 .0)) $
         assigns ! (of-opd ! (load ! (from ! (hop ! (look ! 14 refl) (fld ! refl (stop !)))) (look-in ! 1 (sub ! 2 refl
         (whole !))))) (from ! (stop !)) (init ! 6 refl (tt, wt was .1 .1 .1 .0)) $
-        move ! (0 ∷ 5 ∷ []) $ use2 W (raw (Core rowD Takes 𝓤 H A .pre to) ⊛ ‵ (R .own d (mach ∷ [])))
-        (calls.apart rowD Takes 𝓤 H A W κ′ q′ d (named 1) stands (wt was .1 .1 .0 .fits) (wt was .1 .1 .1 .0 .fits)) $
-        split ! $
+        move ! (0 ∷ 5 ∷ []) $ use2 W (raw (Core takenData Takes 𝓤 H A .pre to) ⊛ ‵ (R .own d (mach ∷ [])))
+        (calls.apart takenData Takes 𝓤 H A W κ′ q′ d (named 1) stands (wt was .1 .1 .0 .fits)
+        (wt was .1 .1 .1 .0 .fits)) $ split ! $
         -- [what `take_at` asks; what the struct owns; its cell; the open borrow; obs; auth; _5; …; _4; …; _3; …; _2;
         -- …; _1; …; room for _0; …]
-        calls-at ! fm (Core rowD Takes 𝓤 H A) known to (and-then ! (load ! (from ! (stop !)) (look ! 10 refl))
+        calls-at ! fm (Core takenData Takes 𝓤 H A) known to (and-then ! (load ! (from ! (stop !)) (look ! 10 refl))
         (and-then ! (load ! (from ! (stop !)) (look ! 8 refl)) (and-then ! (load ! (from ! (stop !)) (look ! 6 refl))
         (no-more !)))) (λ u.
-        answers ! tt D.the-row κ′ q′ (λ (t : Taken). t ≡ taken) (calls.said rowD Takes 𝓤 H A W κ′ q′ d) u (λ t e is. drop ! $
+        answers ! tt D.the-row κ′ q′ (λ (t : Taken). t ≡ taken) (calls.said takenData Takes 𝓤 H A W κ′ q′ d) u
+        (λ t e is. drop ! $
         -- [the token of 'a; what the struct owns; its cell; the open borrow; obs; auth; the locals, the last first]
-        land ! (from ! (stop !)) (init ! 12 refl (typed-at rowD 𝓤 H A W t u is)) $
-        rewrite ! 12 (λ (v : Val). ‵ (fat fullShare D′.mir l₂ 0 v)) (ap only (rowD .tells t (u ∷ []) is)) refl $
+        land ! (from ! (stop !)) (init ! 12 refl (typed-at takenData 𝓤 H A W t u is)) $
+        rewrite ! 12 (λ (v : Val). ‵ (fat fullShare D′.mir l₂ 0 v)) (ap only (takenData .tells t (u ∷ []) is)) refl $
         assigns ! (of-opd ! (load ! (from ! (fld ! refl (stop !))) (look-in ! 12 (sub ! 1 refl (whole !)))))
         (from ! (hop ! (look ! 14 refl) (fld ! refl (stop !)))) (store-in ! 2 (sub ! 1 refl (whole !))
         (tt, record { fits = block-fits t _ is })) $
@@ -169,8 +163,7 @@ module _ {M : Type 1} (𝓤 : URA M) (H : Heap 𝓤) (A : Atoms 𝓤) (W : Given
         (from ! (hop ! (look ! 14 refl) (fld ! refl (stop !)))) (store-in ! 2 (sub ! 2 refl (whole !))
         (tt, record { fits = record-fits t _ is })) $
         assigns ! (of-opd ! (load ! (from ! (fld ! refl (stop !))) (look-in ! 12 (sub ! 0 refl (whole !)))))
-        (from ! (stop !)) (init ! 16 refl (EL.lawful S.the-type S′.the-laws 𝓤 H A W tt .typed (t .found) _
-        (found-is t _ is) .0)) $
+        (from ! (stop !)) (init ! 16 refl (foundData .typed 𝓤 H A W (t .found) (found-is t _ is))) $
         -- the struct is put together again, at the new numbers, and the borrow is closed
         move ! (1 ∷ []) $ use1 W (‵ (R .own (after t) (T′.lowered (after t) ∷ [])))
         (calls.put-both 𝓤 H A W α d (t .block) (t .«record») (block-fits t _ is) (record-fits t _ is)) $
@@ -181,9 +174,10 @@ module _ {M : Type 1} (𝓤 : URA M) (H : Heap 𝓤) (A : Atoms 𝓤) (W : Given
         gone ! 8 8 refl refl $ gone ! 6 6 refl refl $ gone ! 4 4 refl refl $ free0 ! $
         keep ! (0 ∷ 1 ∷ 2 ∷ 3 ∷ []) $ by ! (exits t e (found-is t _ is))))))))))))
 
-module _ {M : Type 1} (𝓤 : URA M) (H : Heap 𝓤) (A : Atoms 𝓤) (W : Given 𝓤 H A) (mem : Memory → SProp 𝓤) (run : Routine
-    → Fun 𝓤) where
-  walks : (C : Calls 𝓤 H) (Λ : Loops 𝓤 H) → FmC 𝓤 H (W .laws) C → Triple 𝓤 (C take-def.name) (Core rowD Takes 𝓤 H A)
+module _ {M : Type 1} (𝓤 : URA M) (H : Heap 𝓤) (A : Atoms 𝓤) (W : Given 𝓤 H A) (mem : Memory → SProp 𝓤)
+    (run : Routine → Fun 𝓤) where
+  walks : (C : Calls 𝓤 H) (Λ : Loops 𝓤 H) → FmC 𝓤 H (W .laws) C
+      → Triple 𝓤 (C take-def.name) (Core takenData Takes 𝓤 H A)
       → Walks 𝓤 H A self.ended stayed (WpFn 𝓤 H C Λ code.function) (self.clauses 𝓤 H A mem run)
   walks C Λ fm known =
       walked 𝓤 H A self.ended stayed (self.clauses 𝓤 H A mem run) (WpFn 𝓤 H C Λ code.function) (λ κs. (ptr-vals, tt))
@@ -191,17 +185,17 @@ module _ {M : Type 1} (𝓤 : URA M) (H : Heap 𝓤) (A : Atoms 𝓤) (W : Given
       (λ κs qs bounds a g are. needs 𝓤 _ _ (walk 𝓤 H A W mem run (κs .0) (κs .1 .0) (qs .0) (qs .1 .0) bounds
       (a .0 .ptr .0) (a .0 .ptr .1) (a .0 .name) (a .0 .now) C Λ fm known))
 
-  meets : (𝓣 : Tables 𝓤 H) → Triple 𝓤 (𝓣 .C take-def.name) (Core rowD Takes 𝓤 H A) → Meets 𝓤 H A self.signature
-      (WpFn 𝓤 H (𝓣 .C) (𝓣 .Λ) code.function) (self.spec 𝓤 H A mem run)
+  meets : (𝓣 : Tables 𝓤 H) → Triple 𝓤 (𝓣 .C take-def.name) (Core takenData Takes 𝓤 H A)
+      → Meets 𝓤 H A self.signature (WpFn 𝓤 H (𝓣 .C) (𝓣 .Λ) code.function) (self.spec 𝓤 H A mem run)
   meets 𝓣 known =
       walk-meets 𝓤 H A self.ended stayed W (goes-ref 𝓤 H A W 2 0 tt behind, tt) (self.clauses 𝓤 H A mem run)
-      (WpFn 𝓤 H (𝓣 .C) (𝓣 .Λ) code.function) (WpFn-mono 𝓤 H (W .laws) 𝓣 code.function) (walks (𝓣 .C) (𝓣 .Λ)
-      (fmOf 𝓤 H (W .laws) 𝓣) known)
+      (WpFn 𝓤 H (𝓣 .C) (𝓣 .Λ) code.function) (WpFn-mono 𝓤 H (W .laws) 𝓣 code.function)
+      (walks (𝓣 .C) (𝓣 .Λ) (fmOf 𝓤 H (W .laws) 𝓣) known)
 
 pub next-spec : {M : Type 1} → stated.statement M
 unfolding code.routine
 next-spec 𝓤 H 𝓜 𝓖 𝓡 =
     over 𝓤 H 𝓜 𝓡 code.env (tripleOf 𝓤 H (𝓖 .A) self.signature (self.spec 𝓤 H (𝓖 .A) (𝓜 .mem) (𝓡 .run)))
-    (Core rowD Takes 𝓤 H (𝓖 .A)) key.name code.function (code.unfolded 𝓤 H 𝓜 𝓡) take-def.name take-def.routine
+    (Core takenData Takes 𝓤 H (𝓖 .A)) key.name code.function (code.unfolded 𝓤 H 𝓜 𝓡) take-def.name take-def.routine
     code.calls-places·take-at (take-thm.met 𝓤 H 𝓜 𝓖 𝓡)
     (meets 𝓤 H (𝓖 .A) (givenOf 𝓤 H 𝓜 𝓖) (𝓜 .mem) (𝓡 .run))

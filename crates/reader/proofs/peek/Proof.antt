@@ -1,9 +1,5 @@
 -- `reader::peek` meets its contract: by the law of Fields, from what `found_at` ensures. Assumes nothing.
-use mathlib.Core.Path.{_≡_, refl}
-use Rattle.places.specs.Places.{takenAt}
-use Rattle.log.proofs.Found as S
-use Rattle.log.proofs.Found.Laws as S′
-use Rattle.walk_laws.proofs.Data.{enum}
+use Rattle.reader.proofs.Take.{foundData, Finds}
 use Rattle.reader.proofs.Fields.{thin}
 use Rattle.places.proofs.found_at.Symbol as by-fields
 use Rattle.places.proofs.found_at.Met.{met}
@@ -14,6 +10,5 @@ use Rattle.reader.proofs.peek.Code as code
 pub peek-spec : {M : Type 1} → statement M
 unfolding code.routine
 peek-spec 𝓤 H 𝓜 𝓖 𝓡 =
-    thin (enum S.the-type S′.the-laws S′.the-plain tt (λ x. tt) (λ x f. refl))
-    (λ log b r f. f ≡ takenAt log b r .found) 𝓤 H 𝓜 𝓖 𝓡 code.env name by-fields.name
-    (code.unfolded 𝓤 H 𝓜 𝓡) by-fields.routine code.calls-places·found-at (met 𝓤 H 𝓜 𝓖 𝓡)
+    thin foundData Finds 𝓤 H 𝓜 𝓖 𝓡 code.env name by-fields.name (code.unfolded 𝓤 H 𝓜 𝓡) by-fields.routine
+    code.calls-places·found-at (met 𝓤 H 𝓜 𝓖 𝓡)

@@ -2,7 +2,7 @@
 use Prim.Native.Nat.{_≤_, _+_, _-_, _%_}
 use native.Mathlib.Omega.{arith}
 use borrow.Author.Needs.{needs}
-use mathlib.Core.Path.{_≡_, sym, _∙_}
+use mathlib.Core.Path.{_≡_}
 use Rattle.lists.specs.Lists.{total}
 use Rattle.words.specs.Words.{words}
 use Rattle.words.proofs.Words.{sum-more, sum-check}

@@ -1,30 +1,22 @@
 -- `words::short_word` meets its contract: the bytes that are not there count as 0. Assumes nothing.
 use native.Mathlib.Omega.{arith}
-use denote.Ref.{now}
+use mathlib.Core.Path.{sym, _∙_}
 use Rattle.words.proofs.Words.{word-three, word-two, word-one, word-none}
 use borrow.Author.Needs.{needs}
 use Rattle.words.proofs.short_word.Statement.{statement}
 use Rattle.words.proofs.short_word.Tie as tie
 
 returns : tie.Need-returns
-returns c =
-    let a = c .before .before .args in
-    omega (arith, word-none (now (a .bytes)) (a .place) (omega arith))
+returns c = sym (word-none _ _ (omega arith))
 
 returns-2 : tie.Need-returns-2
-returns-2 c =
-    let a = c .before .before .before .before .before .args in
-    omega (arith, word-one (now (a .bytes)) (a .place) (omega arith))
+returns-2 c = omega arith ∙ sym (word-one _ _ (omega arith))
 
 returns-3 : tie.Need-returns-3
-returns-3 c =
-    let a = c .before .before .before .before .before .before .before .before .args in
-    omega (arith, word-two (now (a .bytes)) (a .place) (omega arith))
+returns-3 c = omega arith ∙ sym (word-two _ _ (omega arith))
 
 returns-4 : tie.Need-returns-4
-returns-4 c =
-    let a = c .before .before .before .before .before .before .before .before .before .before .args in
-    omega (arith, word-three (now (a .bytes)) (a .place) (omega arith))
+returns-4 c = omega arith ∙ sym (word-three _ _ (omega arith))
 
 pub short-word-spec : {M : Type 1} → statement M
 short-word-spec =

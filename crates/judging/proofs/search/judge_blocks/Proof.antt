@@ -1,6 +1,6 @@
--- `judging::search::judge_blocks` meets its contract. Outside, what is judged from the first block on is what is judged
--- from this one on; inside, the bytes from the first unused one on are as zero as those from this one on. Assumes
--- nothing.
+-- `judging::search::judge_blocks` meets its contract. Outside, what is judged from the first block on is what is
+-- judged from this one on; inside, the bytes from the first unused one on are as zero as those from this one on.
+-- Assumes nothing.
 use Prim.Native.Nat.{ℕ, _≤_, _<_, _+_, _*_, _-_}
 use native.Mathlib.Omega.{arith}
 use native.Mathlib.Nat.{sub-zero}
@@ -94,21 +94,22 @@ headed : (c : Headed)
     → headRefusal (blocksAt (begunAt (c .before))) (placeAt (begunAt (c .before))) (partAt (begunAt (c .before))) ≡ 0
 headed c = sym (head-is (c .before)) ∙ c .if2 .left
 
-unused : (c : tie.After-past-zeros Inv-bytes μ-bytes Inv-search μ-search)
-    → zeros
-    (slice (firstUnused (placeAt (begunAt (c .before .before .before))) (partAt (begunAt (c .before .before .before)))) 508
-    (partAt (begunAt (c .before .before .before))))
-    ≡ zeros (slice (c .past-zeros .result) 508 (partAt (begunAt (c .before .before .before))))
+abbrev Passed : Type 0
+Passed = tie.After-past-zeros Inv-bytes μ-bytes Inv-search μ-search
+
+abbrev begunBy : Passed → Begun
+begunBy c = begunAt (c .before .before .before)
+
+unused : (c : Passed)
+    → zeros (slice (firstUnused (placeAt (begunBy c)) (partAt (begunBy c))) 508 (partAt (begunBy c)))
+    ≡ zeros (slice (c .past-zeros .result) 508 (partAt (begunBy c)))
 unused c =
-    ap (λ (f : ℕ). zeros (slice f 508 (partAt (begunAt (c .before .before .before)))))
-    (sym (c .before .first-unused .ensures))
+    ap (λ (f : ℕ). zeros (slice f 508 (partAt (begunBy c)))) (sym (c .before .first-unused .ensures))
     ∙ c .past-zeros .ensures
 
 -- a block whose bytes are right is refused as its setup is
 refused-as : (c : tie.After-bytes Inv-bytes μ-bytes Inv-search μ-search)
-    → blockRefusal
-    (logAt (begunAt (c .before .before .before .before .before)))
-    (placeAt (begunAt (c .before .before .before .before .before)))
+    → blockRefusal (logAt (begunBy (c .before .before))) (placeAt (begunBy (c .before .before)))
     ≡ c .before .before .before .before .before .setup-refusal-at .result
 refused-as c =
     let h = c .before .before .before .before in
@@ -149,14 +150,14 @@ returns c = sym (c .before .search .inv .1 ∙ judged-end _ _ _ (c .if1 .taken))
 returns-2 : tie.Need-returns-2 Inv-bytes μ-bytes Inv-search μ-search
 returns-2 c =
     let e = begunAt (c .before) in
+    let h = head-is (c .before) in
     stopped e (c .before .before .first-wrong .result)
-    (refusal-head (judged-before e) (part-is e) (λ z. c .if2 .taken (head-is (c .before) ∙ z)) ∙ sym (head-is (c .before)))
-    (c .if2 .taken)
+    (refusal-head (judged-before e) (part-is e) (λ z. c .if2 .taken (h ∙ z)) ∙ sym h) (c .if2 .taken)
 
 returns-3 : tie.Need-returns-3 Inv-bytes μ-bytes Inv-search μ-search
 returns-3 c =
     let f = c .before .before .before .before in
-    let e = begunAt (f .before .before .before) in
+    let e = begunBy f in
     stopped e 33
     (refusal-byte (judged-before e) (part-is e) (headed (f .before .before))
     (unused f ∙ c .before .before .before .bytes .inv

@@ -18,9 +18,11 @@ abbrev μ-loop : tie.MeasureT-loop
 
 loop-again : tie.Need-loop-again Inv-loop μ-loop
 loop-again c =
-    c .before .before .before .before .before .loop .inv
-    ∙ zeros-word 508 _ _ (omega arith) (omega arith) (sym (c .before .before .before .word-at .ensures) ∙ c .before .before .if1 .left)
-    ∙ (simp add-assoc at (zeros-word 508 _ _ (omega arith) (omega arith) (sym (c .before .word-at2 .ensures) ∙ c .if2 .left)))
+    let first = c .before .before in
+    first .before .before .before .loop .inv
+    ∙ zeros-word 508 _ _ (omega arith) (omega arith) (sym (first .before .word-at .ensures) ∙ first .if1 .left)
+    ∙ (simp add-assoc at
+    (zeros-word 508 _ _ (omega arith) (omega arith) (sym (c .before .word-at2 .ensures) ∙ c .if2 .left)))
 
 pub past-zeros-spec : {M : Type 1} → statement M
 past-zeros-spec =

@@ -1,7 +1,9 @@
 -- `judging::search::setup_refusal_at` meets its contract. Assumes nothing.
 use borrow.Author.Needs.{needs}
 use borrow.Author.Tests.{eq-eqb, ne-eqb}
-use Rattle.judging.specs.Blocks.{setupIn}
+use mathlib.Core.Path.{ap, _∙_}
+use Rattle.rule.specs.Setups.{setupRefusal}
+use Rattle.judging.proofs.Blocks.{setup-read}
 use Rattle.judging.proofs.search.setup_refusal_at.Statement.{statement}
 use Rattle.judging.proofs.search.setup_refusal_at.Tie as tie
 
@@ -9,16 +11,11 @@ returns : tie.Need-returns
 returns c = simp (ne-eqb _ 0 (c .if1 .taken))
 
 returns-2 : tie.Need-returns-2
-unfolding setupIn
 returns-2 c =
     let words = c .before .before in
-    rw (
-      eq-eqb _ 0 (words .before .before .before .before .if1 .left),
-      ← words .before .before .word-at .ensures,
-      ← words .before .word-at2 .ensures,
-      ← words .word-at3 .ensures,
-    )
-    (c .setup-refusal .ensures)
+    let e = setup-read _ (words .before .before .word-at .ensures) (words .before .word-at2 .ensures)
+    (words .word-at3 .ensures) in
+    rw (eq-eqb _ 0 (words .before .before .before .before .if1 .left)) (c .setup-refusal .ensures ∙ ap setupRefusal e)
 
 pub setup-refusal-at-spec : {M : Type 1} → statement M
 setup-refusal-at-spec =
