@@ -1,5 +1,4 @@
 -- Logs with several refusals, of which the first is given. Assumes nothing.
-use Prim.Native.Nat.{ℕ}
 use mathlib.Core.List.{List, [], _∷_, _++_}
 use Rattle.worked.specs.Made.{Case, refuses, made, marked, head, wrong, empty}
 
