@@ -65,8 +65,8 @@ fn columns_fit(tasks: usize, asked: usize, amounts: usize, done: usize) -> bool
     (asked == tasks) & (amounts == tasks) & (done == tasks) & (tasks <= 1024)
 }
 
-// All that is printed of a table, at the start of the buffer: the header, the lines of all rows and that of the end. Any
-// columns are taken: those of unequal length, or of more than 1,024 rows, are put as no text.
+// All that is printed of a table, at the start of the buffer: the header, the lines of all rows and that of the end.
+// Any columns are taken: those of unequal length, or of more than 1,024 rows, are put as no text.
 pub fn put_table(
     tasks: &[u32],
     asked: &[u32],

@@ -38,8 +38,9 @@ unfolding entries columnFrom column
 reading = column
 
 abbrev running : State → List Call → Outcome
-unfolding total without before best chosen overdue headBack turn usedMore give rest serve tickOn tick ticks moved drained
-    opened effect requestRefusal advanceRefusal refusal call calls completion completions unlessRefused outcomeFrom
+unfolding total without before best chosen overdue headBack turn usedMore give rest serve tickOn tick ticks moved
+    drained opened effect requestRefusal advanceRefusal refusal call calls completion completions unlessRefused
+    outcomeFrom
 running = outcomeFrom
 
 abbrev printing : List ℕ → List ℕ

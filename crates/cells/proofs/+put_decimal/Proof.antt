@@ -83,10 +83,7 @@ module _ (t : ℕ) where
 
 pub +put-decimal-spec : {M : Type 1} → statement M
 +put-decimal-spec = close μ λ t. lts.spec (claims t) (here t) reads.Post
-    (λ c. search needs)
-    (λ c. search needs)
-    (λ c κs. search needs)
-    (λ c. search needs)
+    (λ c. search needs) (λ c. search needs) (λ c κs. search needs) (λ c. search needs)
     (returns t)
     (put-pair-requires t)
     (λ c. search needs)

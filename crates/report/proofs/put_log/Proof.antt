@@ -62,8 +62,7 @@ pub put-log-spec : {M : Type 1} → statement M
 put-log-spec =
     tie.close
     (tie.spec
-    (λ c κs. search needs)
-    (λ c κs. search needs)
+    (λ c κs. search needs) (λ c κs. search needs)
     array-share-prefix-times
     slice-aggregate-put-rows
     array-share-prefix-tasks

@@ -51,8 +51,7 @@ put-table-spec =
     (tie.spec
     (λ c κs. search needs)
     returns
-    (λ c. search needs)
-    (λ c κs. search needs)
+    (λ c. search needs) (λ c κs. search needs)
     put-rows-requires
     (λ c. search needs)
     put-named-requires
