@@ -1,5 +1,5 @@
-// What a line is made of, in a buffer that the caller lends: a byte, bytes, a number in decimal. Each function puts its
-// text at `at` and answers the place just past it.
+// What a line is made of, in a buffer that the caller lends: a byte, bytes, a number in decimal. Each function puts
+// its text at `at` and answers the place just past it.
 ghost use Prim.Native.Nat.{_+_, _≤_, _<_};
 ghost use mathlib.Core.List.{[], _∷_, _++_};
 ghost use lib.ListN.{length};

@@ -1,5 +1,5 @@
--- The text of a table that was run, from what `table` promises. In order: the table of columns that fit is the outcome
--- of its rows; the result column; the two texts. Assumes nothing.
+-- The text of a table that was run, from what `table` promises. In order: the table of columns that fit is the
+-- outcome of its rows; the result column; the two texts. Assumes nothing.
 use Prim.Native.Nat.{ℕ, _≤_}
 use native.Mathlib.Omega.{arith}
 use mathlib.Core.Path.{_≡_, refl, sym, ap, _∙_, subst}

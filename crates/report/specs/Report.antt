@@ -13,8 +13,8 @@ use Rattle.text.specs.Text.{tableText, refusedLine}
 unfoldable pub logOutcome : List ℕ → Outcome
 logOutcome log = outcomeFrom (fresh (setupOf log)) (rowList log)
 
--- "a header, one line a row .., and the end"; "A log .. whose table is [refused], gives the one line `refused N at P`:
--- P is the row for 10 to 14", for rows in columns of times, tasks and amounts
+-- "a header, one line a row .., and the end"; "A log .. whose table is [refused], gives the one line
+-- `refused N at P`: P is the row for 10 to 14", for rows in columns of times, tasks and amounts
 unfoldable pub tablePrinted : List ℕ → List ℕ → List ℕ → Outcome → List ℕ
 tablePrinted ts ks ms (finished ds end) = tableText ks ts ms ds end
 tablePrinted ts ks ms (rule.refused n row) = refusedLine n row

@@ -1,5 +1,5 @@
--- Rows taken one after the other: what is known of every row's completion after the first i rows. In order: an accepted
--- request; the rows that are left; what is kept; one row more; all rows. Assumes nothing.
+-- Rows taken one after the other: what is known of every row's completion after the first i rows. In order: an
+-- accepted request; the rows that are left; what is kept; one row more; all rows. Assumes nothing.
 use Prim.Native.Nat.{ℕ, suc, _+_, _≤_, _<_}
 use mathlib.Core.Path.{_≡_, refl, sym, ap, _∙_, subst}
 use mathlib.Core.Bool.{cond}

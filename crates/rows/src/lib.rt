@@ -19,8 +19,8 @@ pub struct Ran {
     pub done: [u32; 32],
 }
 
-// A task is requested: the completion of its row before is noted at that row's number, or at 0 if it has none, and this
-// row is its last.
+// A task is requested: the completion of its row before is noted at that row's number, or at 0 if it has none, and
+// this row is its last.
 fn note(task: usize, row: u32, done: &[u32; 32], last: &mut [u32; 32], noted: &mut [u32])
     requires { ⌜ task < 32 ⌝ }
     requires { ⌜ at (now last) task < length (now noted) ⌝ }
@@ -34,8 +34,8 @@ fn note(task: usize, row: u32, done: &[u32; 32], last: &mut [u32; 32], noted: &m
 }
 
 // The rows are requested in order, up to the first that is refused; after the last the run drains. Of the notes, last
-// rows and completions after a refused row nothing is promised: `table`, the only caller, answers the refusal and reads
-// none of them.
+// rows and completions after a refused row nothing is promised: `table`, the only caller, answers the refusal and
+// reads none of them.
 pub fn run_rows(
     setup: Setup,
     times: &[u32],

@@ -1,5 +1,5 @@
--- `rows::run_rows` meets its contract. The invariant: `Going`, what is known of the parts and of every row's completion
--- after the first i rows. Assumes nothing.
+-- `rows::run_rows` meets its contract. The invariant: `Going`, what is known of the parts and of every row's
+-- completion after the first i rows. Assumes nothing.
 use Prim.Native.Nat.{_-_, _<_}
 use native.Mathlib.Omega.{arith}
 use lib.ListN.{length}
