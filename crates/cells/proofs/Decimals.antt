@@ -40,7 +40,8 @@ digits-pairs (suc (suc k)) n d h =
     let tens : n / 10 % 10 ≡ n % 100 / 10 = omega arith in
     let ones : n % 10 ≡ n % 100 % 10 = omega arith in
     digits-more (suc k) n (omega arith)
-    ∙ rw (digits-more k (n / 10) (omega arith), hundred, tens, ones, e) (append-assoc (digits k (n / 100)) ((48 + n % 100 / 10) ∷ []) ((48 + n % 100 % 10) ∷ []))
+    ∙ rw (digits-more k (n / 10) (omega arith), hundred, tens, ones, e)
+    (append-assoc (digits k (n / 100)) ((48 + n % 100 / 10) ∷ []) ((48 + n % 100 % 10) ∷ []))
 
 pub digits-fewer : (k n : ℕ) → Digits k n → 100 ≤ n → Digits (k - 2) (n / 100)
 digits-fewer zero n d h = absurd (not-suc-le-zero (d .some))

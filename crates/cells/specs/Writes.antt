@@ -1,5 +1,5 @@
--- What a function that writes into a lent buffer promises: of every byte of the buffer, and of the place where it stopped.
--- Assumes nothing.
+-- What a function that writes into a lent buffer promises: of every byte of the buffer, and of the place where it
+-- stopped. Assumes nothing.
 use Prim.Native.Nat.{ℕ, _+_, _≤_}
 use mathlib.Core.Path.{_≡_}
 use mathlib.Core.List.{List, _++_}
@@ -16,3 +16,7 @@ pub record Wrote (before after : List ℕ) (at : ℕ) (s : List ℕ) (r : ℕ) :
 pub record WroteUpTo (most : ℕ) (before after : List ℕ) (at : ℕ) (s : List ℕ) (r : ℕ) : Type 0 where
   pub wrote : Wrote before after at s r
   pub short : r ≤ at + most
+
+-- The text s stands at the start of a buffer of 65,536 bytes, and r is its length.
+abbrev pub Puts : List ℕ → List ℕ → List ℕ → ℕ → Type 0
+Puts before after s r = WroteUpTo 65_536 before after 0 s r

@@ -1,5 +1,5 @@
-// What a line is made of, in a buffer that the caller lends: a byte, bytes, a number in decimal. Each function puts its text at
-// `at` and answers the place just past it.
+// What a line is made of, in a buffer that the caller lends: a byte, bytes, a number in decimal. Each function puts
+// its text at `at` and answers the place just past it.
 ghost use Prim.Native.Nat.{_+_, _≤_, _<_};
 ghost use mathlib.Core.List.{[], _∷_, _++_};
 ghost use lib.ListN.{length};
@@ -66,7 +66,8 @@ pub fn put_cell(out: &mut [u8], at: usize, n: u32, b: u8) -> usize
 // Bytes that name a number, the number, and a byte after it.
 pub fn put_named(out: &mut [u8], at: usize, name: &[u8], n: u32, b: u8) -> usize
     requires { ⌜ at + length (now name) + 11 ≤ length (now out) ⌝ }
-    ensures { λ r. ⌜ WroteUpTo (length (now (name .entry)) + 11) (now (out .entry)) (now (out .exit)) at (now (name .entry) ++ (decimal n ++ b ∷ [])) r ⌝ }
+    ensures { λ r. ⌜ WroteUpTo (length (now (name .entry)) + 11) (now (out .entry)) (now (out .exit)) at
+        (now (name .entry) ++ (decimal n ++ b ∷ [])) r ⌝ }
 {
     let p = put_all(out, at, name);
     put_cell(out, p, n, b)

@@ -1,5 +1,5 @@
-// The calls and readings on a run that a caller keeps: each promises of the run before and after what the call by value
-// does, and a refused call leaves the very run.
+// The calls and readings on a run that a caller keeps: each promises of the run before and after what the call by
+// value does, and a refused call leaves the very run.
 use face::NextDone;
 use face::Read;
 use rule::Run;

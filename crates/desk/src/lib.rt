@@ -1,4 +1,5 @@
-// The C face, described in include/anduri.h: each function is a call of a proved one, with plain numbers for its answer.
+// The C face, described in include/anduri.h: each function is a call of a proved one, with plain numbers for its
+// answer.
 use face::Move;
 use face::NextDone;
 use face::Outcome;
@@ -14,7 +15,7 @@ ghost use Rattle.rule.specs.Readings.{owedOf, givenOf, completedOf, nextDone};
 ghost use Rattle.rule.specs.Table.{table};
 ghost use Rattle.rule.specs.View.{view, MadeRun, Started, Promised};
 ghost use Rattle.judging.specs.Log.{judged};
-ghost use Rattle.cells.specs.Writes.{WroteUpTo};
+ghost use Rattle.cells.specs.Writes.{Puts};
 ghost use Rattle.report.specs.Report.{reportText};
 ghost use Rattle.face.specs.Face.{readFace, nextFace, verdictFace, FaceAnswers};
 
@@ -125,7 +126,10 @@ pub extern "C" fn anduri_table(
     amounts: &[u32],
     result: &mut [u32],
 ) -> Outcome
-    ensures { λ r. ⌜ FaceAnswers (table (asked policy count slice (now (priorities .entry))) (now (times .entry)) (now (tasks .entry)) (now (amounts .entry)) (length (now (result .entry)))) (now (result .entry)) r (now (result .exit)) ⌝ }
+    ensures { λ r. ⌜ FaceAnswers
+        (table (asked policy count slice (now (priorities .entry))) (now (times .entry)) (now (tasks .entry))
+        (now (amounts .entry)) (length (now (result .entry))))
+        (now (result .entry)) r (now (result .exit)) ⌝ }
 {
     let answer = table::table(
         policy,
@@ -149,7 +153,7 @@ pub extern "C" fn anduri_judge(log: &[u8]) -> Verdict
 
 #[no_mangle]
 pub extern "C" fn anduri_report(log: &[u8], out: &mut [u8; 65536]) -> usize
-    ensures { λ r. ⌜ WroteUpTo 65_536 (now (out .entry)) (now (out .exit)) 0 (reportText (now (log .entry))) r ⌝ }
+    ensures { λ r. ⌜ Puts (now (out .entry)) (now (out .exit)) (reportText (now (log .entry))) r ⌝ }
 {
     report::report(log, out)
 }

@@ -7,7 +7,7 @@ use Rattle.rule.specs.Readings.{Reading, value, never, refused, Soonest, nothin
 use Rattle.rule.specs.Table as rule
 use Rattle.rule.specs.Table.{written}
 use Rattle.judging.specs.Log as log
-use Rattle.judging.specs.Log.{accepted, judged}
+use Rattle.judging.specs.Log.{accepted}
 use Rattle.log.specs.Records.{askedTimes}
 use Rattle.replay.specs.Answers.{callNumber}
 use Rattle.replay.specs.declared.calls.Moved.{Moved}

@@ -2,7 +2,7 @@
 use Prim.Native.Nat.{ℕ, _+_, _≤_, _<_, zero-le}
 use native.Mathlib.Omega.{arith}
 use native.Mathlib.Numerals.{add-one}
-use mathlib.Core.Path.{_≡_, refl, sym, ap, _∙_, subst}
+use mathlib.Core.Path.{_≡_, refl, sym, ap, _∙_}
 use mathlib.Core.List.{List}
 use lib.ListN.{length, take, set, length-set}
 use lib.Seq.{take-suc, take-suc-set, take-all}
@@ -40,7 +40,8 @@ module _ (log : List ℕ) (h : Reads log) where
   filled-start times tasks amounts r =
       record { inside = zero-le; roomy = r; times-same = refl; tasks-same = refl; amounts-same = refl }
 
-  pub filled-more : {times tasks amounts : List ℕ} {i : ℕ} (row : Record) → row ≡ rowAt log i → i < length (askedTimes log)
+  pub filled-more : {times tasks amounts : List ℕ} {i : ℕ} (row : Record) → row ≡ rowAt log i
+      → i < length (askedTimes log)
       → Filled log i times tasks amounts
       → Filled log (i + 1) (set times i (row .time)) (set tasks i (row .task)) (set amounts i (row .amount))
   filled-more {times} {tasks} {amounts} {i} row e g f =
@@ -58,15 +59,15 @@ module _ (log : List ℕ) (h : Reads log) where
             take-more times (askedTimes log) i (row .time) (omega (arith, r .times-room)) g
             (ap (λ (x : Record). x .time) e) (f .times-same);
         tasks-same =
-            take-more tasks (askedTasks log) i (row .task) (omega (arith, r .tasks-room)) (omega (arith, column-same log h 1))
-            (ap (λ (x : Record). x .task) e) (f .tasks-same);
+            take-more tasks (askedTasks log) i (row .task) (omega (arith, r .tasks-room))
+            (omega (arith, column-same log h 1)) (ap (λ (x : Record). x .task) e) (f .tasks-same);
         amounts-same =
             take-more amounts (askedAmounts log) i (row .amount) (omega (arith, r .amounts-room))
             (omega (arith, column-same log h 2)) (ap (λ (x : Record). x .amount) e) (f .amounts-same);
       }
 
-  pub filled-all : {times tasks amounts : List ℕ} {i : ℕ} → length (askedTimes log) ≤ i → Filled log i times tasks amounts
-      → AllFilled log times tasks amounts
+  pub filled-all : {times tasks amounts : List ℕ} {i : ℕ} → length (askedTimes log) ≤ i
+      → Filled log i times tasks amounts → AllFilled log times tasks amounts
   filled-all {times} {tasks} {amounts} {i} g f =
       let e : i ≡ length (askedTimes log) = omega (arith, f .inside) in
       record {

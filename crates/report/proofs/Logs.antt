@@ -1,38 +1,42 @@
 -- The text of a log: of one that reads, by its columns; of one that is refused. Assumes nothing.
 use Prim.Native.Nat.{ℕ, _≤_}
 use native.Mathlib.Omega.{arith}
-use mathlib.Core.Path.{_≡_, sym, ap, _∙_}
+use mathlib.Core.Path.{_≡_, sym, ap}
 use mathlib.Core.List.{List}
 use lib.ListN.{length, take}
-use Rattle.rule.specs.Setups.{setupRefusal}
-use Rattle.rule.specs.State.{fresh}
-use Rattle.rule.specs.Table.{outcomeFrom, rows, columnRefusal}
 use Rattle.rule.specs.declared.Setup.{Setup}
+use Rattle.laws.specs.Rows.{Tabled}
 use Rattle.judging.specs.Log.{refused, judged, Reads}
-use Rattle.log.specs.Records.{setupOf, askedTimes, askedTasks, askedAmounts, rowList}
+use Rattle.log.specs.Records.{setupOf, askedTimes, askedTasks, askedAmounts}
 use Rattle.log.proofs.Setups.{accepted-setup}
-use Rattle.log.proofs.Rows.{column-most, columns-fit}
+use Rattle.log.proofs.Rows.{column-most}
 use Rattle.text.specs.Text.{refusedLine}
 use Rattle.report.specs.Filled.{AllFilled}
-use Rattle.report.specs.Report.{logOutcome, tablePrinted, printed, reportText}
+use Rattle.report.specs.Report.{logOutcome, rowsPrinted, printed, reportText}
+use Rattle.report.proofs.Filling.{column-same}
 
 -- ---- a log that reads
 
 module _ (log : List ℕ) (h : Reads log) where
-  pub log-setup : (p : Setup) → p ≡ setupOf log → setupRefusal p ≡ 0
-  log-setup p e = ap setupRefusal e ∙ accepted-setup log h
+  module _ (p : Setup) (ts ks ms : List ℕ) (ep : p ≡ setupOf log) (et : ts ≡ askedTimes log) (ek : ks ≡ askedTasks log)
+      (em : ms ≡ askedAmounts log) where
+    columns-tabled : Tabled p (length ts) (length ks) (length ms) 1_024
+    columns-tabled =
+        rw (ep, et, ek, em)
+        record {
+          setup = accepted-setup log h;
+          tasks-equal = column-same log h 1;
+          amounts-equal = column-same log h 2;
+          few = column-most 0 log h;
+          fits = column-most 0 log h;
+        }
 
-  columns-zero : (ts ks ms : List ℕ) → ts ≡ askedTimes log → ks ≡ askedTasks log → ms ≡ askedAmounts log
-      → columnRefusal (length ts) (length ks) (length ms) 1_024 ≡ 0
-  columns-zero ts ks ms et ek em = rw (et, ek, em) (columns-fit log h)
-
-  text-same : (ts ks ms : List ℕ) (p : Setup) → ts ≡ askedTimes log → ks ≡ askedTasks log → ms ≡ askedAmounts log
-      → p ≡ setupOf log → tablePrinted ts ks ms (outcomeFrom (fresh p) (rows ts ks ms)) ≡ reportText log
-  unfolding reportText printed logOutcome
-  text-same ts ks ms p et ek em ep = rw (et, ek, em, ep) (ap (printed log) (sym h))
+    text-same : rowsPrinted p ts ks ms ≡ reportText log
+    unfolding reportText printed logOutcome
+    text-same = rw (ep, et, ek, em) (ap (printed log) (sym h))
 
   -- the columns that the log's rows were put into
-  module _ {times tasks amounts : List ℕ} (F : AllFilled log times tasks amounts) (n : ℕ)
+  module _ {times tasks amounts : List ℕ} (F : AllFilled log times tasks amounts) {n : ℕ}
       (e : n ≡ length (askedTimes log)) where
     room : (column : List ℕ) → length column ≡ 1_024 → n ≤ length column
     room column f = omega (arith, column-most 0 log h)
@@ -55,14 +59,13 @@ module _ (log : List ℕ) (h : Reads log) where
     amounts-are : take n amounts ≡ askedAmounts log
     amounts-are = rw e (F .amounts-same)
 
-    pub log-columns : columnRefusal (length (take n times)) (length (take n tasks)) (length (take n amounts)) 1_024 ≡ 0
-    log-columns = columns-zero (take n times) (take n tasks) (take n amounts) times-are tasks-are amounts-are
+    module _ {p : Setup} (ep : p ≡ setupOf log) where
+      pub log-tabled : Tabled p (length (take n times)) (length (take n tasks)) (length (take n amounts)) 1_024
+      log-tabled =
+          columns-tabled p (take n times) (take n tasks) (take n amounts) ep times-are tasks-are amounts-are
 
-    pub log-text : (p : Setup) → p ≡ setupOf log
-        → tablePrinted (take n times) (take n tasks) (take n amounts)
-        (outcomeFrom (fresh p) (rows (take n times) (take n tasks) (take n amounts)))
-        ≡ reportText log
-    log-text p ep = text-same (take n times) (take n tasks) (take n amounts) p times-are tasks-are amounts-are ep
+      pub log-text : rowsPrinted p (take n times) (take n tasks) (take n amounts) ≡ reportText log
+      log-text = text-same p (take n times) (take n tasks) (take n amounts) ep times-are tasks-are amounts-are
 
 -- ---- a log that is refused
 

@@ -1,20 +1,20 @@
--- The text of a table that was run, from what `table` promises. In order: the table of columns that fit is the outcome of its
--- rows; the result column; the two texts. Then the texts of a log. Assumes nothing.
+-- The text of a table that was run, from what `table` promises. In order: the table of columns that fit is the
+-- outcome of its rows; the result column; the two texts. Assumes nothing.
 use Prim.Native.Nat.{ℕ, _≤_}
 use native.Mathlib.Omega.{arith}
 use mathlib.Core.Path.{_≡_, refl, sym, ap, _∙_, subst}
 use mathlib.Core.Logic.{⊎-elim}
 use mathlib.Core.List.{List, _++_}
-use lib.ListN.{length, take, drop, length-append, length-drop}
+use lib.ListN.{length, take, drop, length-append}
 use lib.Seq.{length-take-le, take-at}
 use borrow.Author.Tests.{eq-eqb}
 use Rattle.lists.proofs.Testing.{cond-true}
-use Rattle.rule.specs.Setups.{setupRefusal}
 use Rattle.rule.specs.State.{fresh}
-use Rattle.rule.specs.Table.{Outcome, refused, finished, completions, outcomeFrom, rows, columnRefusal, tableRefusal, tableFrom, table, written}
+use Rattle.rule.specs.Table.{Outcome, refused, finished, completions, outcomeFrom}
+use Rattle.rule.specs.Table.{rows, tableFrom, table, written}
 use Rattle.rule.specs.declared.Setup.{Setup}
 use Rattle.laws.specs.Rows.{Tabled}
-use Rattle.laws.proofs.Tables.{calls-outcome, completions-length, rows-length, table-tabled}
+use Rattle.laws.proofs.Tables.{calls-outcome, completions-length, rows-length, table-exact}
 use Rattle.table.specs.Answers.{Answers, answerOf}
 use Rattle.table.specs.declared.TableAnswer.{TableAnswer}
 use Rattle.table.specs.declared.TableAnswer.the-variants.{Finished, Refused}
@@ -23,23 +23,15 @@ use Rattle.text.specs.Inner.{Columns}
 use Rattle.text.proofs.Columns.{columnsText-fit}
 use Rattle.report.specs.Report.{tablePrinted}
 
-module _ (p : Setup) (ts ks ms : List ℕ) (z : setupRefusal p ≡ 0)
-    (f : columnRefusal (length ts) (length ks) (length ms) 1_024 ≡ 0) where
+module _ (p : Setup) (ts ks ms : List ℕ) (tabled : Tabled p (length ts) (length ks) (length ms) 1_024) where
   abbrev o : Outcome
   o = outcomeFrom (fresh p) (rows ts ks ms)
 
   -- ---- columns that fit
 
-  no-refusal : tableRefusal p (length ts) (length ks) (length ms) 1_024 ≡ 0
-  unfolding tableRefusal
-  no-refusal = cond-true _ _ (eq-eqb (setupRefusal p) 0 z) ∙ f
-
-  tabled : Tabled p (length ts) (length ks) (length ms) 1_024
-  tabled = table-tabled p (length ts) (length ks) (length ms) 1_024 no-refusal
-
   table-is : table p ts ks ms 1_024 ≡ o
   unfolding table tableFrom
-  table-is = cond-true _ _ (eq-eqb _ 0 no-refusal)
+  table-is = cond-true _ _ (eq-eqb _ 0 (table-exact p (length ts) (length ks) (length ms) 1_024 .1 tabled))
 
   -- ---- the result column
 
@@ -118,25 +110,26 @@ module _ (p : Setup) (ts ks ms : List ℕ) (z : setupRefusal p ≡ 0)
 
       pub after-room : length ts ≤ length after
       after-room =
-          omega (arith, ap length (ends .column), length-append (ends .dones) (drop (length (ends .dones)) before), as-many)
+          let ds = ends .dones in
+          omega (arith, ap length (ends .column), length-append ds (drop (length ds) before), as-many)
 
       pub after-part : length ts ≡ length (take (length ts) after)
       after-part = sym (length-take-le (length ts) after after-room)
 
       after-columns : Columns ks ts ms (take (length ts) after)
       after-columns =
-          let q = tabled in
           record {
-            few = omega (arith, q .tasks-equal, q .few);
-            asked-too = sym (q .tasks-equal);
-            amounts-too = q .amounts-equal ∙ sym (q .tasks-equal);
-            done-too = sym after-part ∙ sym (q .tasks-equal);
+            few = omega (arith, tabled .tasks-equal, tabled .few);
+            asked-too = sym (tabled .tasks-equal);
+            amounts-too = tabled .amounts-equal ∙ sym (tabled .tasks-equal);
+            done-too = sym after-part ∙ sym (tabled .tasks-equal);
           }
 
       pub text-finished : columnsText ks ts ms (take (length ts) after) end ≡ tablePrinted ts ks ms o
       unfolding tablePrinted
       text-finished =
-          let front : take (length ts) after ≡ ends .dones =
-          ap (take (length ts)) (ends .column) ∙ take-at (ends .dones) (drop (length (ends .dones)) before) (length ts) as-many in
+          let ds = ends .dones in
+          let front : take (length ts) after ≡ ds =
+          ap (take (length ts)) (ends .column) ∙ take-at ds (drop (length ds) before) (length ts) as-many in
           columnsText-fit _ _ _ _ _ after-columns ∙ ap (λ (l : List ℕ). tableText ks ts ms l end) front
           ∙ ap (tablePrinted ts ks ms) (sym (ends .outcome))

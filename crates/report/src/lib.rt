@@ -6,14 +6,12 @@ use rule::Setup;
 use table::TableAnswer;
 ghost use mathlib.Core.Path.{_≡_};
 ghost use lib.ListN.{length};
-ghost use Rattle.rule.specs.Setups.{setupRefusal};
-ghost use Rattle.rule.specs.State.{fresh};
-ghost use Rattle.rule.specs.Table.{rows, outcomeFrom, columnRefusal};
+ghost use Rattle.laws.specs.Rows.{Tabled};
 ghost use Rattle.judging.specs.Log.{Reads};
 ghost use Rattle.log.specs.Records.{askedTimes};
-ghost use Rattle.cells.specs.Writes.{WroteUpTo};
+ghost use Rattle.cells.specs.Writes.{Puts};
 ghost use Rattle.report.specs.Filled.{recordIn, Roomy, AllFilled};
-ghost use Rattle.report.specs.Report.{tablePrinted, reportText};
+ghost use Rattle.report.specs.Report.{rowsPrinted, reportText};
 
 // The record that was found; zeros where there was none.
 fn record_in(found: Found) -> Record
@@ -67,9 +65,9 @@ fn put_rows(
     amounts: &[u32],
     out: &mut [u8; 65536],
 ) -> usize
-    requires { ⌜ setupRefusal setup ≡ 0 ⌝ }
-    requires { ⌜ columnRefusal (length (now times)) (length (now tasks)) (length (now amounts)) 1_024 ≡ 0 ⌝ }
-    ensures { λ r. ⌜ WroteUpTo 65_536 (now (out .entry)) (now (out .exit)) 0 (tablePrinted (now (times .entry)) (now (tasks .entry)) (now (amounts .entry)) (outcomeFrom (fresh setup) (rows (now (times .entry)) (now (tasks .entry)) (now (amounts .entry))))) r ⌝ }
+    requires { ⌜ Tabled setup (length (now times)) (length (now tasks)) (length (now amounts)) 1_024 ⌝ }
+    ensures { λ r. ⌜ Puts (now (out .entry)) (now (out .exit))
+        (rowsPrinted setup (now (times .entry)) (now (tasks .entry)) (now (amounts .entry))) r ⌝ }
 {
     let priority = setup.priority;
     let mut done = [0u32; 1024];
@@ -95,7 +93,7 @@ fn put_rows(
 // The table of an accepted log, run and put.
 fn put_log(log: &[u8], out: &mut [u8; 65536]) -> usize
     requires { ⌜ Reads (now log) ⌝ }
-    ensures { λ r. ⌜ WroteUpTo 65_536 (now (out .entry)) (now (out .exit)) 0 (reportText (now (log .entry))) r ⌝ }
+    ensures { λ r. ⌜ Puts (now (out .entry)) (now (out .exit)) (reportText (now (log .entry))) r ⌝ }
 {
     let mut times = [0u32; 1024];
     let mut tasks = [0u32; 1024];
@@ -105,9 +103,10 @@ fn put_log(log: &[u8], out: &mut [u8; 65536]) -> usize
     put_rows(setup, &times[..n], &tasks[..n], &amounts[..n], out)
 }
 
-// Puts all that is printed for a log at the start of out, and answers how much it is. Any bytes of any length are taken.
+// Puts all that is printed for a log at the start of out, and answers how much it is. Any bytes of any length are
+// taken.
 pub fn report(log: &[u8], out: &mut [u8; 65536]) -> usize
-    ensures { λ r. ⌜ WroteUpTo 65_536 (now (out .entry)) (now (out .exit)) 0 (reportText (now (log .entry))) r ⌝ }
+    ensures { λ r. ⌜ Puts (now (out .entry)) (now (out .exit)) (reportText (now (log .entry))) r ⌝ }
 {
     let judged = judging::judge(log);
     match judged {

@@ -43,4 +43,8 @@ module _ (ks last done noted before after : List ℕ) (i : ℕ) (P : Putting ks 
   pub putting-end : length ks ≤ i → Writes ks last done noted before after
   putting-end h =
       let e : i ≡ length ks = omega (arith, P .fits) in
-      record { room = P .room; each = λ j g. P .each j (omega arith); stays = subst (λ (m : ℕ). drop m after ≡ drop m before) e (P .stays) }
+      record {
+        room = P .room;
+        each = λ j g. P .each j (omega arith);
+        stays = subst (λ (m : ℕ). drop m after ≡ drop m before) e (P .stays);
+      }

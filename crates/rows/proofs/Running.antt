@@ -1,5 +1,5 @@
--- The loop over rows on the parts of a run: from a fresh run, one row more, a refused row, and the drain at the end. Assumes
--- nothing.
+-- The loop over rows on the parts of a run: from a fresh run, one row more, a refused row, and the drain at the end.
+-- Assumes nothing.
 use Prim.Native.Nat.{ℕ, _+_, _≤_, _<_, zero-le}
 use native.Mathlib.Omega.{arith}
 use native.Mathlib.Nat.{not-suc-le-zero}
@@ -27,7 +27,8 @@ use Rattle.engine.specs.Promises.{Asks, Reached}
 use Rattle.engine.specs.declared.Asked.{Asked}
 use Rattle.engine.proofs.Requests.{asked-taken}
 use Rattle.rows.specs.Promises.{Fitting, Runs, settled}
-use Rattle.rows.proofs.Taking.{Kept, kept-start, kept-refused, kept-step, kept-outcome, kept-many, kept-known, kept-each}
+use Rattle.rows.proofs.Taking.{Kept, kept-start, kept-refused, kept-step}
+use Rattle.rows.proofs.Taking.{kept-outcome, kept-many, kept-known, kept-each}
 
 -- ---- a fresh run in parts
 
@@ -65,15 +66,17 @@ request-clock s t k a z =
 
 -- ---- the rows
 
-module _ (p : Setup) (ts ks ms noted₀ : List ℕ) where
-  -- after i rows
-  pub record Going (c : Cursor) (q o g d last noted : List ℕ) (i : ℕ) : Type 0 where
-    pub kept : steps.Kept p c q
-    pub sound : Sound (parts p c q o g d)
-    pub soon : c .clock ≤ lastTime
-    pub rows : Kept ts ks ms (fresh p) (parts p c q o g d) last noted i (length noted₀)
+-- after i rows
+pub record Going (p : Setup) (ts ks ms noted₀ : List ℕ) (c : Cursor) (q o g d last noted : List ℕ) (i : ℕ)
+    : Type 0 where
+  pub kept : steps.Kept p c q
+  pub sound : Sound (parts p c q o g d)
+  pub soon : c .clock ≤ lastTime
+  pub rows : Kept ts ks ms (fresh p) (parts p c q o g d) last noted i (length noted₀)
 
-  pub going-start : setupRefusal p ≡ 0 → Going begun zeros32 zeros32 zeros32 zeros32 zeros32 noted₀ 0
+module _ {p : Setup} {ts ks ms noted₀ : List ℕ} where
+  pub going-start : setupRefusal p ≡ 0
+      → Going p ts ks ms noted₀ begun zeros32 zeros32 zeros32 zeros32 zeros32 noted₀ 0
   going-start z =
       let e = begun-parts p in
       record {
@@ -86,20 +89,23 @@ module _ (p : Setup) (ts ks ms noted₀ : List ℕ) where
       }
 
   module _ (F : Fitting p ts ks ms noted₀) {c : Cursor} {q o g d last noted : List ℕ} {i : ℕ}
-      (G : Going c q o g d last noted i) where
+      (G : Going p ts ks ms noted₀ c q o g d last noted i) where
+    abbrev s : State
+    s = parts p c q o g d
+
     pub going-room : c .clock + total o ≤ lastClock
-    going-room = omega (arith, G .soon, owed-limit (parts p c q o g d) (G .sound))
+    going-room = omega (arith, G .soon, owed-limit s (G .sound))
 
     -- the row that task k's note is for has a place among the notes
     pub going-mark : (k : ℕ) → i < length ts → at last k < length noted
     going-mark k h = omega (arith, G .rows .marks k, G .rows .room, F .room)
 
-    module _ (h : i < length ts) (r : Asked) {q′ o′ g′ d′ : List ℕ}
+    module _ (h : i < length ts) {r : Asked} {q′ o′ g′ d′ : List ℕ}
         (A : Asks p (at ts i) (at ks i) (at ms i) r q′ (parts p c q o g d) (parts p (r .cursor) q′ o′ g′ d′)) where
       abbrev row : Call
       row = request (at ts i) (at ks i) (at ms i)
 
-      number : r .refusal ≡ refusal (parts p c q o g d) row
+      number : r .refusal ≡ refusal s row
       unfolding refusal
       number = A .answer
 
@@ -110,71 +116,69 @@ module _ (p : Setup) (ts ks ms noted₀ : List ℕ) where
           record {
             room = G .rows .room;
             stopped = λ y.
-                kept-refused ts ks ms (F .tasks-too) (F .amounts-too) i h (fresh p) _ last noted _ (G .rows)
-                (λ x. z (number ∙ x))
+                kept-refused (G .rows) (F .tasks-too) (F .amounts-too) h (λ x. z (number ∙ x))
                 ∙ ap (λ (n : ℕ). refused n (i + 1)) (sym number);
             taken = λ y. absurd (z y);
           }
 
       module _ (z : r .refusal ≡ 0) where
-        accepted : refusal (parts p c q o g d) row ≡ 0
+        accepted : refusal s row ≡ 0
         accepted = sym number ∙ z
 
         pub going-known : at ks i < 32
         unfolding refusal
         going-known =
-            let k = request-accepted (parts p c q o g d) (at ts i) (at ks i) (at ms i) accepted .task in
+            let k = request-accepted s (at ts i) (at ks i) (at ms i) accepted .task in
             omega (arith, G .sound .few)
 
-        called : parts p (r .cursor) q′ o′ g′ d′ ≡ call (parts p c q o g d) row
+        called : parts p (r .cursor) q′ o′ g′ d′ ≡ call s row
         unfolding refusal effect
         called =
             A .left .shown
-            ∙ asked-taken (parts p c q o g d) (at ts i) (at ks i) (at ms i) accepted
-            ∙ sym (accepted-acts (parts p c q o g d) row accepted)
+            ∙ asked-taken s (at ts i) (at ks i) (at ms i) accepted
+            ∙ sym (accepted-acts s row accepted)
 
         pub going-step : {last′ noted′ : List ℕ} → last′ ≡ set last (at ks i) (i + 1)
-            → noted′ ≡ set noted (at last (at ks i)) (at d′ (at ks i)) → Going (r .cursor) q′ o′ g′ d′ last′ noted′ (i + 1)
+            → noted′ ≡ set noted (at last (at ks i)) (at d′ (at ks i))
+            → Going p ts ks ms noted₀ (r .cursor) q′ o′ g′ d′ last′ noted′ (i + 1)
         going-step e₁ e₂ =
             let t : r .cursor .clock ≡ at ts i =
-            ap (λ (s : State). s .clock) called ∙ request-clock (parts p c q o g d) (at ts i) (at ks i) (at ms i) accepted in
+            ap (λ (x : State). x .clock) called ∙ request-clock s (at ts i) (at ks i) (at ms i) accepted in
             rw (e₁, e₂)
             record {
               kept = A .left .kept;
               sound = A .left .sound;
               soon = rw t (late accepted);
               rows =
-                  subst (λ (s : State). Kept ts ks ms (fresh p) s (set last (at ks i) (i + 1))
-                  (set noted (at last (at ks i)) (at (s .done) (at ks i))) (i + 1) (length noted₀))
+                  subst (λ (x : State). Kept ts ks ms (fresh p) x (set last (at ks i) (i + 1))
+                  (set noted (at last (at ks i)) (at (x .done) (at ks i))) (i + 1) (length noted₀))
                   (sym called)
-                  (kept-step ts ks ms (F .tasks-too) (F .amounts-too) i h (fresh p) _ last noted _ (G .rows) accepted going-known (F .room));
+                  (kept-step (G .rows) (F .tasks-too) (F .amounts-too) h accepted going-known (F .room));
             }
           where
-            late : refusal (parts p c q o g d) row ≡ 0 → at ts i ≤ lastTime
-            late y = unfold refusal in request-accepted (parts p c q o g d) (at ts i) (at ks i) (at ms i) y .time
+            late : refusal s row ≡ 0 → at ts i ≤ lastTime
+            late y = unfold refusal in request-accepted s (at ts i) (at ks i) (at ms i) y .time
 
     -- ---- the end
 
-    pub going-end : length ts ≤ i → (r : Cursor) {q′ o′ g′ d′ : List ℕ}
+    pub going-end : length ts ≤ i → {r : Cursor} {q′ o′ g′ d′ : List ℕ}
         → Reached p r q′ (drained (parts p c q o g d)) (parts p r q′ o′ g′ d′)
         → Runs (fresh p) (rows ts ks ms) ks
         (record { refusal = 0; end = r .clock; last = last; done = d′ }) noted₀ noted
-    going-end h r {q′} {o′} {g′} {d′} D =
-        let s = parts p c q o g d in
-        let n = length noted₀ in
+    going-end h D =
         let e = D .shown in
         record {
           room = G .rows .room;
           stopped = λ y. absurd (y refl);
           taken = λ y.
               record {
-                known = kept-known ts ks ms (F .tasks-too) (fresh p) s last noted i n (G .rows) h;
+                known = kept-known (G .rows) (F .tasks-too) h;
                 ends =
-                    kept-outcome ts ks ms (F .tasks-too) (fresh p) s last noted i n (G .rows) h
+                    kept-outcome (G .rows) (F .tasks-too) h
                     ∙ ap (λ (x : State). finished (completions (fresh p) (rows ts ks ms)) (x .clock)) (sym e);
-                many = kept-many ts ks ms (F .tasks-too) (fresh p) s last noted i n (G .rows) h;
+                many = kept-many (G .rows) (F .tasks-too) h;
                 each = λ j g₁.
-                    kept-each ts ks ms (F .tasks-too) (fresh p) s last noted i n (G .rows) h j g₁
+                    kept-each (G .rows) (F .tasks-too) h j g₁
                     ∙ ap (λ (x : State). settled ks last (x .done) noted j) (sym e);
               };
         }

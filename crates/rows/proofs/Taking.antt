@@ -1,5 +1,5 @@
--- Rows taken one after the other: what is known of every row's completion after the first i rows. In order: an accepted
--- request; the rows that are left; what is kept; one row more; all rows. Assumes nothing.
+-- Rows taken one after the other: what is known of every row's completion after the first i rows. In order: an
+-- accepted request; the rows that are left; what is kept; one row more; all rows. Assumes nothing.
 use Prim.Native.Nat.{ℕ, suc, _+_, _≤_, _<_}
 use mathlib.Core.Path.{_≡_, refl, sym, ap, _∙_, subst}
 use mathlib.Core.Bool.{cond}
@@ -48,7 +48,8 @@ pub record Kept (ts ks ms : List ℕ) (s₀ s : State) (last noted : List ℕ) (
       → at (completions s₀ (rows ts ks ms)) j
       ≡ cond (eqb (at last (at ks j)) (j + 1)) (completion s (at ks j) (from ts ks ms i)) (at noted (j + 1))
 
-pub kept-start : (ts ks ms : List ℕ) (s : State) (noted : List ℕ) → Kept ts ks ms s s (replicate 32 0) noted 0 (length noted)
+pub kept-start : (ts ks ms : List ℕ) (s : State) (noted : List ℕ)
+    → Kept ts ks ms s s (replicate 32 0) noted 0 (length noted)
 kept-start ts ks ms s noted =
     record {
       fits = omega arith;
@@ -64,8 +65,9 @@ kept-start ts ks ms s noted =
       each = λ j h. absurd (omega arith);
     }
 
-module _ (ts ks ms : List ℕ) (sameK : length ks ≡ length ts) (sameM : length ms ≡ length ts) (i : ℕ) (h : i < length ts) where
-  pub next-row : from ts ks ms i ≡ request (at ts i) (at ks i) (at ms i) ∷ from ts ks ms (i + 1)
+module _ {ts ks ms : List ℕ} {s₀ s : State} {last noted : List ℕ} {i n : ℕ} (T : Kept ts ks ms s₀ s last noted i n)
+    (sameK : length ks ≡ length ts) (sameM : length ms ≡ length ts) (h : i < length ts) where
+  next-row : from ts ks ms i ≡ request (at ts i) (at ks i) (at ms i) ∷ from ts ks ms (i + 1)
   unfolding rows
   next-row =
       rw (add-one i, drop-cons ts i 0 h, drop-cons ks i 0 (omega arith), drop-cons ms i 0 (omega arith))
@@ -73,118 +75,137 @@ module _ (ts ks ms : List ℕ) (sameK : length ks ≡ length ts) (sameM : length
   abbrev row : Call
   row = request (at ts i) (at ks i) (at ms i)
 
-  module _ (s₀ s : State) (last noted : List ℕ) (n : ℕ) (T : Kept ts ks ms s₀ s last noted i n) where
-    -- the row is refused
-    pub kept-refused : (refusal s row ≡ 0 → ⊥)
-        → outcomeFrom s₀ (rows ts ks ms) ≡ refused (refusal s row) (i + 1)
-    unfolding outcomeFrom unlessRefused
-    kept-refused z =
-        let o : Outcome = finished (completions s₀ (rows ts ks ms)) (drained (calls s₀ (rows ts ks ms)) .clock) in
-        sym (T .same o) ∙ ap (λ (cs : List Call). unlessRefused (i + 1) s cs o) next-row ∙ cond-false _ _ (ne-eqb _ 0 z)
+  -- the row is refused
+  pub kept-refused : (refusal s row ≡ 0 → ⊥) → outcomeFrom s₀ (rows ts ks ms) ≡ refused (refusal s row) (i + 1)
+  unfolding outcomeFrom unlessRefused
+  kept-refused z =
+      let o : Outcome = finished (completions s₀ (rows ts ks ms)) (drained (calls s₀ (rows ts ks ms)) .clock) in
+      sym (T .same o) ∙ ap (λ (cs : List Call). unlessRefused (i + 1) s cs o) next-row ∙ cond-false _ _ (ne-eqb _ 0 z)
 
-    -- the row is accepted
-    module _ (z : refusal s row ≡ 0) (small : at ks i < 32) (wide : length ts < n) where
-      abbrev k : ℕ
-      k = at ks i
+  -- the row is accepted
+  module _ (z : refusal s row ≡ 0) (small : at ks i < 32) (wide : length ts < n) where
+    abbrev k : ℕ
+    k = at ks i
 
-      abbrev s′ : State
-      s′ = call s row
+    abbrev s′ : State
+    s′ = call s row
 
-      abbrev last′ : List ℕ
-      last′ = set last k (i + 1)
+    abbrev last′ : List ℕ
+    last′ = set last k (i + 1)
 
-      abbrev noted′ : List ℕ
-      noted′ = set noted (at last k) (at (s′ .done) k)
+    abbrev noted′ : List ℕ
+    noted′ = set noted (at last k) (at (s′ .done) k)
 
-      abbrev C : List ℕ
-      C = completions s₀ (rows ts ks ms)
+    abbrev C : List ℕ
+    C = completions s₀ (rows ts ks ms)
 
-      comps : completions s (from ts ks ms i) ≡ completion s′ k (from ts ks ms (i + 1)) ∷ completions s′ (from ts ks ms (i + 1))
-      unfolding completions
-      comps = ap (completions s) next-row
+    -- the rows that are left now, and after this one
+    abbrev left : List Call
+    left = from ts ks ms i
 
-      last-same : at last′ k ≡ i + 1
-      last-same = at-set-same last k (i + 1) (omega (arith, T .last32))
+    abbrev left′ : List Call
+    left′ = from ts ks ms (i + 1)
 
-      last-other : (j : ℕ) → (j ≡ k → ⊥) → at last′ j ≡ at last j
-      last-other j f = at-set-other last k (i + 1) j f
+    comps : completions s left ≡ completion s′ k left′ ∷ completions s′ left′
+    unfolding completions
+    comps = ap (completions s) next-row
 
-      noted-other : (j : ℕ) → (at last k ≡ j → ⊥) → at noted′ j ≡ at noted j
-      noted-other j f = at-set-other noted (at last k) (at (s′ .done) k) j (λ (e : j ≡ at last k). f (sym e))
+    last-same : at last′ k ≡ i + 1
+    last-same = at-set-same last k (i + 1) (omega (arith, T .last32))
 
-      noted-same : (j : ℕ) → at last k ≡ j → at noted′ j ≡ at (s′ .done) k
-      noted-same j e =
-          ap (at noted′) (sym e) ∙ at-set-same noted (at last k) (at (s′ .done) k) (omega (arith, T .marks k, T .room))
+    last-other : (j : ℕ) → (j ≡ k → ⊥) → at last′ j ≡ at last j
+    last-other j f = at-set-other last k (i + 1) j f
 
-      -- the task is requested again: its row before is done
-      completion-again : completion s k (from ts ks ms i) ≡ at (s′ .done) k
-      unfolding completion
-      completion-again =
-          ap (completion s k) next-row
-          ∙ cond-true _ _ (eq-eqb k k refl)
-          ∙ ap (λ (l : List ℕ). at l k) (sym (accepted-done s (at ts i) k (at ms i) z))
+    noted-other : (j : ℕ) → (at last k ≡ j → ⊥) → at noted′ j ≡ at noted j
+    noted-other j f = at-set-other noted (at last k) (at (s′ .done) k) j (λ (e : j ≡ at last k). f (sym e))
 
-      completion-other : (j : ℕ) → (j ≡ k → ⊥) → completion s j (from ts ks ms i) ≡ completion s′ j (from ts ks ms (i + 1))
-      unfolding completion
-      completion-other j f = ap (completion s j) next-row ∙ cond-false _ _ (ne-eqb k j (λ (e : k ≡ j). f (sym e)))
+    noted-same : (j : ℕ) → at last k ≡ j → at noted′ j ≡ at (s′ .done) k
+    noted-same j e =
+        ap (at noted′) (sym e) ∙ at-set-same noted (at last k) (at (s′ .done) k) (omega (arith, T .marks k, T .room))
 
-      abbrev Row : ℕ → Type 0
-      Row j = at C j ≡ cond (eqb (at last′ (at ks j)) (j + 1)) (completion s′ (at ks j) (from ts ks ms (i + 1))) (at noted′ (j + 1))
+    -- the task is requested again: its row before is done
+    completion-again : completion s k left ≡ at (s′ .done) k
+    unfolding completion
+    completion-again =
+        ap (completion s k) next-row
+        ∙ cond-true _ _ (eq-eqb k k refl)
+        ∙ ap (λ (l : List ℕ). at l k) (sym (accepted-done s (at ts i) k (at ms i) z))
 
-      row-new : Row i
-      row-new =
-          ap (at C) (sym (add-zero i)) ∙ T .rest 0 ∙ ap (λ (l : List ℕ). at l 0) comps
-          ∙ sym (cond-true _ _ (eq-eqb (at last′ k) (i + 1) last-same))
+    completion-other : (j : ℕ) → (j ≡ k → ⊥) → completion s j left ≡ completion s′ j left′
+    unfolding completion
+    completion-other j f = ap (completion s j) next-row ∙ cond-false _ _ (ne-eqb k j (λ (e : k ≡ j). f (sym e)))
 
-      -- an earlier row of the same task
-      row-same : (j : ℕ) → j < i → at ks j ≡ k → Row j
-      row-same j g e =
-          T .each j g
-          ∙ equal-or (at last k) (j + 1)
-          (λ (y : at last k ≡ j + 1).
-          cond-true _ _ (eq-eqb (at last (at ks j)) (j + 1) (ap (at last) e ∙ y))
-          ∙ ap (λ (m : ℕ). completion s m (from ts ks ms i)) e
-          ∙ completion-again
-          ∙ sym (noted-same (j + 1) y))
-          (λ (y : at last k ≡ j + 1 → ⊥).
-          cond-false _ _ (ne-eqb (at last (at ks j)) (j + 1) (λ x. y (sym (ap (at last) e) ∙ x)))
-          ∙ sym (noted-other (j + 1) y))
-          ∙ sym (cond-false _ _ (ne-eqb (at last′ (at ks j)) (j + 1) (λ x. let w : i + 1 ≡ j + 1 = sym last-same ∙ sym (ap (at last′) e) ∙ x in omega arith)))
+    -- row j's completion: m is its task's last row, d the completion still to come, and x what was noted
+    abbrev pick : ℕ → ℕ → ℕ → ℕ → ℕ
+    pick j m d x = cond (eqb m (j + 1)) d x
 
-      -- a row of another task
-      row-other : (j : ℕ) → j < i → (at ks j ≡ k → ⊥) → Row j
-      row-other j g f =
-          T .each j g
-          ∙ ap (λ (m : ℕ). cond (eqb m (j + 1)) (completion s (at ks j) (from ts ks ms i)) (at noted (j + 1))) (sym (last-other (at ks j) f))
-          ∙ ap (λ (m : ℕ). cond (eqb (at last′ (at ks j)) (j + 1)) m (at noted (j + 1))) (completion-other (at ks j) f)
-          ∙ ap (λ (m : ℕ). cond (eqb (at last′ (at ks j)) (j + 1)) (completion s′ (at ks j) (from ts ks ms (i + 1))) m)
-          (sym (noted-other (j + 1) (λ (y : at last k ≡ j + 1). f (T .own k j y))))
+    abbrev Row : ℕ → Type 0
+    Row j = at C j ≡ pick j (at last′ (at ks j)) (completion s′ (at ks j) left′) (at noted′ (j + 1))
 
-      pub kept-step : Kept ts ks ms s₀ s′ last′ noted′ (i + 1) n
-      unfolding unlessRefused calls
-      kept-step =
-          record {
-            fits = omega arith;
-            room = length-set noted (at last k) (at (s′ .done) k) ∙ T .room;
-            last32 = length-set last k (i + 1) ∙ T .last32;
-            known = λ j g. equal-or j i (λ (e : j ≡ i). rw e small) (λ (e : j ≡ i → ⊥). T .known j (omega arith));
-            marks = λ m. equal-or m k (λ (e : m ≡ k). rw e (omega (arith, last-same))) (λ (e : m ≡ k → ⊥). omega (arith, last-other m e, T .marks m));
-            own = λ m j e. equal-or m k
-                (λ (f : m ≡ k). let y : j ≡ i = (let w : at last′ k ≡ j + 1 = ap (at last′) (sym f) ∙ e in omega (arith, last-same)) in ap (at ks) y ∙ sym f)
-                (λ (f : m ≡ k → ⊥). T .own m j (sym (last-other m f) ∙ e));
-            same = λ o. sym (ap (λ (cs : List Call). unlessRefused (i + 1) s cs o) next-row ∙ cond-true _ _ (eq-eqb _ 0 z)) ∙ T .same o;
-            ends = sym (ap (calls s) next-row) ∙ T .ends;
-            many = omega (arith, ap length comps, T .many);
-            rest = λ m. ap (at C) (later m) ∙ T .rest (suc m) ∙ ap (λ (l : List ℕ). at l (suc m)) comps;
-            each = λ j g. equal-or j i (λ (e : j ≡ i). subst Row (sym e) row-new)
-                (λ (e : j ≡ i → ⊥). equal-or (at ks j) k (row-same j (omega arith)) (row-other j (omega arith)));
-          }
-        where
-          later : (m : ℕ) → i + 1 + m ≡ i + suc m
-          later m = omega arith
+    row-new : Row i
+    row-new =
+        ap (at C) (sym (add-zero i)) ∙ T .rest 0 ∙ ap (λ (l : List ℕ). at l 0) comps
+        ∙ sym (cond-true _ _ (eq-eqb (at last′ k) (i + 1) last-same))
+
+    -- an earlier row of the same task
+    row-same : (j : ℕ) → j < i → at ks j ≡ k → Row j
+    row-same j g e =
+        T .each j g
+        ∙ equal-or (at last k) (j + 1)
+        (λ (y : at last k ≡ j + 1).
+        cond-true _ _ (eq-eqb (at last (at ks j)) (j + 1) (ap (at last) e ∙ y))
+        ∙ ap (λ (m : ℕ). completion s m left) e
+        ∙ completion-again
+        ∙ sym (noted-same (j + 1) y))
+        (λ (y : at last k ≡ j + 1 → ⊥).
+        cond-false _ _ (ne-eqb (at last (at ks j)) (j + 1) (λ x. y (sym (ap (at last) e) ∙ x)))
+        ∙ sym (noted-other (j + 1) y))
+        ∙ sym (cond-false _ _ (ne-eqb (at last′ (at ks j)) (j + 1) later))
+      where
+        later : at last′ (at ks j) ≡ j + 1 → ⊥
+        later x = let w : i + 1 ≡ j + 1 = sym last-same ∙ sym (ap (at last′) e) ∙ x in omega arith
+
+    -- a row of another task
+    row-other : (j : ℕ) → j < i → (at ks j ≡ k → ⊥) → Row j
+    row-other j g f =
+        let m = at last′ (at ks j) in
+        T .each j g
+        ∙ ap (λ (l : ℕ). pick j l (completion s (at ks j) left) (at noted (j + 1))) (sym (last-other (at ks j) f))
+        ∙ ap (λ (d : ℕ). pick j m d (at noted (j + 1))) (completion-other (at ks j) f)
+        ∙ ap (pick j m (completion s′ (at ks j) left′))
+        (sym (noted-other (j + 1) (λ (y : at last k ≡ j + 1). f (T .own k j y))))
+
+    pub kept-step : Kept ts ks ms s₀ s′ last′ noted′ (i + 1) n
+    unfolding unlessRefused calls
+    kept-step =
+        record {
+          fits = omega arith;
+          room = length-set noted (at last k) (at (s′ .done) k) ∙ T .room;
+          last32 = length-set last k (i + 1) ∙ T .last32;
+          known = λ j g. equal-or j i (λ (e : j ≡ i). rw e small) (λ (e : j ≡ i → ⊥). T .known j (omega arith));
+          marks = λ m. equal-or m k (λ (e : m ≡ k). rw e (omega (arith, last-same)))
+              (λ (e : m ≡ k → ⊥). omega (arith, last-other m e, T .marks m));
+          own = λ m j e. equal-or m k (λ (f : m ≡ k). ap (at ks) (marked j (ap (at last′) (sym f) ∙ e)) ∙ sym f)
+              (λ (f : m ≡ k → ⊥). T .own m j (sym (last-other m f) ∙ e));
+          same = λ o.
+              sym (ap (λ (cs : List Call). unlessRefused (i + 1) s cs o) next-row ∙ cond-true _ _ (eq-eqb _ 0 z))
+              ∙ T .same o;
+          ends = sym (ap (calls s) next-row) ∙ T .ends;
+          many = omega (arith, ap length comps, T .many);
+          rest = λ m. ap (at C) (later m) ∙ T .rest (suc m) ∙ ap (λ (l : List ℕ). at l (suc m)) comps;
+          each = λ j g. equal-or j i (λ (e : j ≡ i). subst Row (sym e) row-new)
+              (λ (e : j ≡ i → ⊥). equal-or (at ks j) k (row-same j (omega arith)) (row-other j (omega arith)));
+        }
+      where
+        marked : (j : ℕ) → at last′ k ≡ j + 1 → j ≡ i
+        marked j w = omega (arith, last-same)
+
+        later : (m : ℕ) → i + 1 + m ≡ i + suc m
+        later m = omega arith
 
 -- all rows are taken
-module _ (ts ks ms : List ℕ) (sameK : length ks ≡ length ts) (s₀ s : State) (last noted : List ℕ) (i n : ℕ) (T : Kept ts ks ms s₀ s last noted i n) (h : length ts ≤ i) where
+module _ {ts ks ms : List ℕ} {s₀ s : State} {last noted : List ℕ} {i n : ℕ} (T : Kept ts ks ms s₀ s last noted i n)
+    (sameK : length ks ≡ length ts) (h : length ts ≤ i) where
   whole : i ≡ length ks
   whole = omega (arith, T .fits)
 
@@ -200,13 +221,15 @@ module _ (ts ks ms : List ℕ) (sameK : length ks ≡ length ts) (s₀ s : State
   kept-outcome =
       let o : Outcome = finished D (drained (calls s₀ (rows ts ks ms)) .clock) in
       let e : s ≡ calls s₀ (rows ts ks ms) = sym (ap (calls s) nothing-left) ∙ T .ends in
-      sym (T .same o) ∙ ap (λ (cs : List Call). unlessRefused (i + 1) s cs o) nothing-left ∙ ap (λ (x : State). finished D (drained x .clock)) (sym e)
+      sym (T .same o)
+      ∙ ap (λ (cs : List Call). unlessRefused (i + 1) s cs o) nothing-left
+      ∙ ap (λ (x : State). finished D (drained x .clock)) (sym e)
 
   pub kept-many : length D ≡ length ks
   unfolding completions
   kept-many =
-      let e : length (completions s (from ts ks ms i)) ≡ 0 = ap (λ (cs : List Call). length (completions s cs)) nothing-left in
-      omega (arith, whole, T .many)
+      let none = ap (λ (cs : List Call). length (completions s cs)) nothing-left in
+      omega (arith, none, whole, T .many)
 
   pub kept-known : (j : ℕ) → j < length ks → at ks j < 32
   kept-known j g = T .known j (omega (arith, whole))
@@ -214,5 +237,6 @@ module _ (ts ks ms : List ℕ) (sameK : length ks ≡ length ts) (s₀ s : State
   pub kept-each : (j : ℕ) → j < length ks → at D j ≡ settled ks last (drained s .done) noted j
   unfolding completion
   kept-each j g =
+      let picked = eqb (at last (at ks j)) (j + 1) in
       T .each j (omega (arith, whole))
-      ∙ ap (λ (cs : List Call). cond (eqb (at last (at ks j)) (j + 1)) (completion s (at ks j) cs) (at noted (j + 1))) nothing-left
+      ∙ ap (λ (cs : List Call). cond picked (completion s (at ks j) cs) (at noted (j + 1))) nothing-left

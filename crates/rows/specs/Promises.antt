@@ -13,8 +13,8 @@ use Rattle.rule.specs.Table.{refused, finished, completions, outcomeFrom}
 use Rattle.rule.specs.declared.Setup.{Setup}
 use Rattle.rows.specs.declared.Ran.{Ran}
 
--- Row j's completion: the task's latest at the end if the row is its task's last, else what was noted when the task was
--- requested again. `last` has each task's last row, and `noted` an entry for each row.
+-- Row j's completion: the task's latest at the end if the row is its task's last, else what was noted when the task
+-- was requested again. `last` has each task's last row, and `noted` an entry for each row.
 abbrev pub settled : List ℕ → List ℕ → List ℕ → List ℕ → ℕ → ℕ
 settled ks last done noted j = cond (eqb (at last (at ks j)) (j + 1)) (at done (at ks j)) (at noted (j + 1))
 

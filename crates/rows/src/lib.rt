@@ -10,8 +10,8 @@ ghost use Rattle.rule.specs.State.{fresh};
 ghost use Rattle.rule.specs.Table.{rows};
 ghost use Rattle.rows.specs.Promises.{Fitting, Known, Runs, Writes};
 
-// The rows run: the refusal or 0; where they ended, by the row that was refused or by the clock after the drain; each task's
-// last row or 0; and each task's latest completion. Rows count from 1.
+// The rows run: the refusal or 0; where they ended, by the row that was refused or by the clock after the drain; each
+// task's last row or 0; and each task's latest completion. Rows count from 1.
 pub struct Ran {
     pub refusal: u32,
     pub end: u32,
@@ -19,20 +19,23 @@ pub struct Ran {
     pub done: [u32; 32],
 }
 
-// A task is requested: the completion of its row before is noted at that row's number, or at 0 if it has none, and this row is
-// its last.
+// A task is requested: the completion of its row before is noted at that row's number, or at 0 if it has none, and
+// this row is its last.
 fn note(task: usize, row: u32, done: &[u32; 32], last: &mut [u32; 32], noted: &mut [u32])
     requires { ⌜ task < 32 ⌝ }
     requires { ⌜ at (now last) task < length (now noted) ⌝ }
     ensures { λ _. ⌜ now (last .exit) ≡ set (now (last .entry)) task row ⌝ }
-    ensures { λ _. ⌜ now (noted .exit) ≡ set (now (noted .entry)) (at (now (last .entry)) task) (at (now (done .entry)) task) ⌝ }
+    ensures { λ _. ⌜ now (noted .exit)
+        ≡ set (now (noted .entry)) (at (now (last .entry)) task) (at (now (done .entry)) task) ⌝ }
 {
     let before = last[task] as usize;
     noted[before] = done[task];
     last[task] = row;
 }
 
-// The rows are requested in order, up to the first that is refused; after the last the run drains.
+// The rows are requested in order, up to the first that is refused; after the last the run drains. Of the notes, last
+// rows and completions after a refused row nothing is promised: `table`, the only caller, answers the refusal and
+// reads none of them.
 pub fn run_rows(
     setup: Setup,
     times: &[u32],
@@ -41,7 +44,8 @@ pub fn run_rows(
     noted: &mut [u32],
 ) -> Ran
     requires { ⌜ Fitting setup (now times) (now tasks) (now amounts) (now noted) ⌝ }
-    ensures { λ r. ⌜ Runs (fresh setup) (rows (now (times .entry)) (now (tasks .entry)) (now (amounts .entry))) (now (tasks .entry)) r (now (noted .entry)) (now (noted .exit)) ⌝ }
+    ensures { λ r. ⌜ Runs (fresh setup) (rows (now (times .entry)) (now (tasks .entry)) (now (amounts .entry)))
+        (now (tasks .entry)) r (now (noted .entry)) (now (noted .exit)) ⌝ }
 {
     let mut queue = [0u8; 32];
     let mut owed = [0u32; 32];
@@ -104,7 +108,8 @@ pub fn put(tasks: &[u32], last: [u32; 32], done: [u32; 32], noted: &[u32], resul
     requires { ⌜ length (now tasks) < length (now noted) ⌝ }
     requires { ⌜ length (now tasks) ≤ length (now result) ⌝ }
     requires { ⌜ Known (now tasks) ⌝ }
-    ensures { λ _. ⌜ Writes (now (tasks .entry)) last done (now (noted .entry)) (now (result .entry)) (now (result .exit)) ⌝ }
+    ensures { λ _. ⌜ Writes (now (tasks .entry)) last done (now (noted .entry))
+        (now (result .entry)) (now (result .exit)) ⌝ }
 {
     let mut i: usize = 0;
     while i < tasks.len() {

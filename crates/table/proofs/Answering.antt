@@ -29,7 +29,7 @@ module _ (s : State) (cs : List Call) (ks : List ℕ) (r : Ran) (noted₀ noted 
     front : take (length ks) after ≡ D
     front =
         let A = R .taken z in
-        let long : length (take (length ks) after) ≡ length ks = length-take-le (length ks) after (omega (arith, W .room)) in
+        let long = length-take-le (length ks) after (omega (arith, W .room)) in
         ext-getD 0 (take (length ks) after) D (long ∙ sym (A .many))
         (λ j g. getD-take (length ks) after j 0 (omega arith) ∙ W .each j (omega arith) ∙ sym (A .each j (omega arith)))
 

@@ -1,4 +1,5 @@
--- The refusals before the rows: what columns that fit have, and the three ways in which a table is answered. Assumes nothing.
+-- The refusals before the rows: what columns that fit have, and the three ways in which a table is answered.
+-- Assumes nothing.
 use Prim.Native.Nat.{ℕ, _<_}
 use mathlib.Core.Path.{_≡_, refl, sym, ap, _∙_, subst}
 use mathlib.Core.List.{List}
@@ -10,9 +11,9 @@ use Rattle.rule.specs.State.{fresh}
 use Rattle.rule.specs.Table.{Outcome, outcomeFrom, rows, columnRefusal, tableRefusal, tableFrom, table, written}
 use Rattle.rule.specs.declared.Setup.{Setup}
 use Rattle.laws.specs.Rows.{Tabled}
-use Rattle.laws.proofs.Tables.{table-tabled}
-use Rattle.table.specs.Answers.{Answers}
+use Rattle.laws.proofs.Tables.{table-tabled, table-exact}
 use Rattle.rows.specs.Promises.{Fitting}
+use Rattle.table.specs.Answers.{Answers, AnswersTable}
 use Rattle.table.specs.declared.TableAnswer.{TableAnswer}
 use Rattle.table.specs.declared.TableAnswer.the-variants.{Refused}
 
@@ -31,46 +32,53 @@ module _ (p : Setup) (ts ks ms before : List ℕ) where
   unfolding tableRefusal
   judged-columns z = cond-true _ _ (eq-eqb (setupRefusal p) 0 z)
 
-  -- ---- columns that fit
+  -- ---- refused before the rows
 
-  module _ (z : setupRefusal p ≡ 0) (f : misfit ≡ 0) where
-    pub columns-tabled : Tabled p (length ts) (length ks) (length ms) (length before)
-    columns-tabled = table-tabled p (length ts) (length ks) (length ms) (length before) (judged-columns z ∙ f)
-
-    pub columns-fitting : (noted : List ℕ) → length ts < length noted → Fitting p ts ks ms noted
-    columns-fitting noted h =
-        let q = columns-tabled in
-        record {
-          accepted = z;
-          tasks-too = q .tasks-equal;
-          amounts-too = q .amounts-equal;
-          few = q .few;
-          room = h;
-        }
-
-  -- ---- the three ways
-
-  refused-at : (n : ℕ) → judged ≡ n → (n ≡ 0 → ⊥) → Answers (table p ts ks ms (length before)) before (Refused n 0) before
+  refused-at : (n : ℕ) → judged ≡ n → (n ≡ 0 → ⊥) → AnswersTable p ts ks ms before (Refused n 0) before
   unfolding table tableFrom written
   refused-at n e z =
       subst (λ (o : Outcome). Answers o before (Refused n 0) before)
       (sym (ap (λ (m : ℕ). tableFrom m p (rows ts ks ms)) e ∙ cond-false _ _ (ne-eqb n 0 z)))
       record { answer = refl; column = refl }
 
-  pub table-misset : (n : ℕ) → n ≡ setupRefusal p → (n ≡ 0 → ⊥)
-      → Answers (table p ts ks ms (length before)) before (Refused n 0) before
+  pub table-misset : (n : ℕ) → n ≡ setupRefusal p → (n ≡ 0 → ⊥) → AnswersTable p ts ks ms before (Refused n 0) before
   table-misset n e z = refused-at n (judged-setup (λ y. z (e ∙ y)) ∙ sym e) z
 
   pub table-misfit : (n : ℕ) → setupRefusal p ≡ 0 → n ≡ misfit → (n ≡ 0 → ⊥)
-      → Answers (table p ts ks ms (length before)) before (Refused n 0) before
+      → AnswersTable p ts ks ms before (Refused n 0) before
   table-misfit n s e z = refused-at n (judged-columns s ∙ sym e) z
 
-  pub table-runs : setupRefusal p ≡ 0 → misfit ≡ 0 → {q : Setup} → q ≡ p → {r : TableAnswer} {after : List ℕ}
-      → Answers (outcomeFrom (fresh q) (rows ts ks ms)) before r after
-      → Answers (table p ts ks ms (length before)) before r after
-  unfolding table tableFrom
-  table-runs s f e {r} {after} h =
-      subst (λ (o : Outcome). Answers o before r after)
-      (ap (λ (x : Setup). outcomeFrom (fresh x) (rows ts ks ms)) e
-      ∙ sym (cond-true _ _ (eq-eqb judged 0 (judged-columns s ∙ f))))
-      h
+  -- ---- columns that fit
+
+  columns-tabled : setupRefusal p ≡ 0 → misfit ≡ 0
+      → Tabled p (length ts) (length ks) (length ms) (length before)
+  columns-tabled z f = table-tabled p (length ts) (length ks) (length ms) (length before) (judged-columns z ∙ f)
+
+  -- the setup that was judged is the one that was asked for
+  module _ {asked : Setup} (e : asked ≡ p) where
+    pub tabled-asked : setupRefusal p ≡ 0 → misfit ≡ 0
+        → Tabled asked (length ts) (length ks) (length ms) (length before)
+    tabled-asked z f =
+        subst (λ (x : Setup). Tabled x (length ts) (length ks) (length ms) (length before)) (sym e) (columns-tabled z f)
+
+    pub table-asked : {r : TableAnswer} {after : List ℕ} → AnswersTable asked ts ks ms before r after
+        → AnswersTable p ts ks ms before r after
+    table-asked {r} {after} h = subst (λ (x : Setup). AnswersTable x ts ks ms before r after) e h
+
+  module _ (q : Tabled p (length ts) (length ks) (length ms) (length before)) where
+    pub columns-fitting : (noted : List ℕ) → length ts < length noted → Fitting p ts ks ms noted
+    columns-fitting noted h =
+        record {
+          accepted = q .setup;
+          tasks-too = q .tasks-equal;
+          amounts-too = q .amounts-equal;
+          few = q .few;
+          room = h;
+        }
+
+    pub table-runs : {r : TableAnswer} {after : List ℕ} → Answers (outcomeFrom (fresh p) (rows ts ks ms)) before r after
+        → AnswersTable p ts ks ms before r after
+    unfolding table tableFrom
+    table-runs {r} {after} h =
+        let none = table-exact p (length ts) (length ks) (length ms) (length before) .1 q in
+        subst (λ (o : Outcome). Answers o before r after) (sym (cond-true _ _ (eq-eqb judged 0 none))) h

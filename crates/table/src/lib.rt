@@ -3,11 +3,10 @@ use rule::Setup;
 ghost use mathlib.Core.Path.{_≡_};
 ghost use Prim.Native.Nat.{_<_};
 ghost use lib.ListN.{length};
-ghost use Rattle.rule.specs.Setups.{asked, setupRefusal};
-ghost use Rattle.rule.specs.State.{fresh};
-ghost use Rattle.rule.specs.Table.{rows, outcomeFrom, columnRefusal};
-ghost use Rattle.rule.specs.Table as table;
-ghost use Rattle.table.specs.Answers.{Answers};
+ghost use Rattle.rule.specs.Setups.{asked};
+ghost use Rattle.rule.specs.Table.{columnRefusal};
+ghost use Rattle.laws.specs.Rows.{Tabled};
+ghost use Rattle.table.specs.Answers.{AnswersTable};
 
 // The end; or a refusal with its number, and the row from 1 where a row is at fault, else 0.
 pub enum TableAnswer {
@@ -43,10 +42,10 @@ fn run_noted(
     noted: &mut [u32],
     result: &mut [u32],
 ) -> TableAnswer
-    requires { ⌜ setupRefusal setup ≡ 0 ⌝ }
-    requires { ⌜ columnRefusal (length (now times)) (length (now tasks)) (length (now amounts)) (length (now result)) ≡ 0 ⌝ }
+    requires { ⌜ Tabled setup (length (now times)) (length (now tasks)) (length (now amounts)) (length (now result)) ⌝ }
     requires { ⌜ length (now times) < length (now noted) ⌝ }
-    ensures { λ r. ⌜ Answers (outcomeFrom (fresh setup) (rows (now (times .entry)) (now (tasks .entry)) (now (amounts .entry)))) (now (result .entry)) r (now (result .exit)) ⌝ }
+    ensures { λ r. ⌜ AnswersTable setup (now (times .entry)) (now (tasks .entry)) (now (amounts .entry))
+        (now (result .entry)) r (now (result .exit)) ⌝ }
 {
     let ran = rows::run_rows(setup, times, tasks, amounts, noted);
     if ran.refusal != 0 {
@@ -66,9 +65,9 @@ fn run_table(
     amounts: &[u32],
     result: &mut [u32],
 ) -> TableAnswer
-    requires { ⌜ setupRefusal setup ≡ 0 ⌝ }
-    requires { ⌜ columnRefusal (length (now times)) (length (now tasks)) (length (now amounts)) (length (now result)) ≡ 0 ⌝ }
-    ensures { λ r. ⌜ Answers (outcomeFrom (fresh setup) (rows (now (times .entry)) (now (tasks .entry)) (now (amounts .entry)))) (now (result .entry)) r (now (result .exit)) ⌝ }
+    requires { ⌜ Tabled setup (length (now times)) (length (now tasks)) (length (now amounts)) (length (now result)) ⌝ }
+    ensures { λ r. ⌜ AnswersTable setup (now (times .entry)) (now (tasks .entry)) (now (amounts .entry))
+        (now (result .entry)) r (now (result .exit)) ⌝ }
 {
     // To clear the notes for 1,024 rows takes 4,000 instructions, as many as 20 rows: short tables have shorter ones.
     if times.len() < 65 {
@@ -91,7 +90,9 @@ pub fn table(
     amounts: &[u32],
     result: &mut [u32],
 ) -> TableAnswer
-    ensures { λ r. ⌜ Answers (table.table (asked policy count slice (now (priorities .entry))) (now (times .entry)) (now (tasks .entry)) (now (amounts .entry)) (length (now (result .entry)))) (now (result .entry)) r (now (result .exit)) ⌝ }
+    ensures { λ r. ⌜ AnswersTable (asked policy count slice (now (priorities .entry)))
+        (now (times .entry)) (now (tasks .entry)) (now (amounts .entry))
+        (now (result .entry)) r (now (result .exit)) ⌝ }
 {
     let judged = setups::judged_setup(policy, count, slice, priorities);
     let wrong = judged.refusal;

@@ -1,5 +1,5 @@
--- Document 01, "The printing program": what is printed, as bytes. A number is printed as `decimal` of cells/specs. Assumes
--- nothing.
+-- Document 01, "The printing program": what is printed, as bytes. A number is printed as `decimal` of cells/specs.
+-- Assumes nothing.
 use Prim.Native.Nat.{ℕ, zero, suc, _+_}
 use Prim.Native.Char.{code}
 use Prim.Native.String.{String, [] as none, _∷_ as _then_}

@@ -2,8 +2,8 @@
 ghost use mathlib.Core.Path.{_≡_};
 ghost use Prim.Native.Nat.{_+_, _*_, _≤_};
 ghost use lib.ListN.{length};
-ghost use Rattle.cells.specs.Writes.{WroteUpTo};
-ghost use Rattle.text.specs.Text.{rowLine, rowLines, tableText, columnsFit, columnsText, refusedLine};
+ghost use Rattle.cells.specs.Writes.{WroteUpTo, Puts};
+ghost use Rattle.text.specs.Text.{rowLine, rowLines, columnsFit, columnsText, refusedLine};
 ghost use Rattle.text.specs.Inner.{Columns};
 
 // The line of a row.
@@ -37,7 +37,9 @@ fn put_rows(
 ) -> usize
     requires { ⌜ Columns (now tasks) (now asked) (now amounts) (now done) ⌝ }
     requires { ⌜ at + 55 * length (now tasks) ≤ length (now out) ⌝ }
-    ensures { λ r. ⌜ WroteUpTo (55 * length (now (tasks .entry))) (now (out .entry)) (now (out .exit)) at (rowLines (now (tasks .entry)) (now (asked .entry)) (now (amounts .entry)) (now (done .entry)) (length (now (tasks .entry)))) r ⌝ }
+    ensures { λ r. ⌜ WroteUpTo (55 * length (now (tasks .entry))) (now (out .entry)) (now (out .exit)) at
+        (rowLines (now (tasks .entry)) (now (asked .entry)) (now (amounts .entry)) (now (done .entry))
+        (length (now (tasks .entry)))) r ⌝ }
 {
     let mut p = at;
     let mut i: usize = 0;
@@ -60,37 +62,11 @@ fn put_rows(
 fn columns_fit(tasks: usize, asked: usize, amounts: usize, done: usize) -> bool
     ensures { λ r. ⌜ r ≡ columnsFit tasks asked amounts done ⌝ }
 {
-    if asked != tasks {
-        return false;
-    }
-    if amounts != tasks {
-        return false;
-    }
-    if done != tasks {
-        return false;
-    }
-    tasks <= 1024
+    (asked == tasks) & (amounts == tasks) & (done == tasks) & (tasks <= 1024)
 }
 
-// The header, the lines of all rows and that of the end, at the start of the buffer.
-fn put_lines(
-    tasks: &[u32],
-    asked: &[u32],
-    amounts: &[u32],
-    done: &[u32],
-    end: u32,
-    out: &mut [u8; 65536],
-) -> usize
-    requires { ⌜ Columns (now tasks) (now asked) (now amounts) (now done) ⌝ }
-    ensures { λ r. ⌜ WroteUpTo 65_536 (now (out .entry)) (now (out .exit)) 0 (tableText (now (tasks .entry)) (now (asked .entry)) (now (amounts .entry)) (now (done .entry)) end) r ⌝ }
-{
-    let a = cells::put_all(out, 0, b"row task asked amount done\n");
-    let b = put_rows(out, a, tasks, asked, amounts, done);
-    cells::put_named(out, b, b"end ", end, b'\n')
-}
-
-// All that is printed of a table, at the start of the buffer. Any columns are taken: those of unequal length, or of more
-// than 1,024 rows, are put as no text.
+// All that is printed of a table, at the start of the buffer: the header, the lines of all rows and that of the end.
+// Any columns are taken: those of unequal length, or of more than 1,024 rows, are put as no text.
 pub fn put_table(
     tasks: &[u32],
     asked: &[u32],
@@ -99,17 +75,20 @@ pub fn put_table(
     end: u32,
     out: &mut [u8; 65536],
 ) -> usize
-    ensures { λ r. ⌜ WroteUpTo 65_536 (now (out .entry)) (now (out .exit)) 0 (columnsText (now (tasks .entry)) (now (asked .entry)) (now (amounts .entry)) (now (done .entry)) end) r ⌝ }
+    ensures { λ r. ⌜ Puts (now (out .entry)) (now (out .exit))
+        (columnsText (now (tasks .entry)) (now (asked .entry)) (now (amounts .entry)) (now (done .entry)) end) r ⌝ }
 {
     if !columns_fit(tasks.len(), asked.len(), amounts.len(), done.len()) {
         return 0;
     }
-    put_lines(tasks, asked, amounts, done, end, out)
+    let a = cells::put_all(out, 0, b"row task asked amount done\n");
+    let b = put_rows(out, a, tasks, asked, amounts, done);
+    cells::put_named(out, b, b"end ", end, b'\n')
 }
 
 // The one line of a refusal, at the start of the buffer.
 pub fn put_refused(n: u32, p: u32, out: &mut [u8; 65536]) -> usize
-    ensures { λ r. ⌜ WroteUpTo 65_536 (now (out .entry)) (now (out .exit)) 0 (refusedLine n p) r ⌝ }
+    ensures { λ r. ⌜ Puts (now (out .entry)) (now (out .exit)) (refusedLine n p) r ⌝ }
 {
     let a = cells::put_named(out, 0, b"refused ", n, b' ');
     cells::put_named(out, a, b"at ", p, b'\n')

@@ -1,9 +1,9 @@
 -- Logs with several refusals, of which the first is given. Assumes nothing.
-use Prim.Native.Nat.{ℕ}
 use mathlib.Core.List.{List, [], _∷_, _++_}
 use Rattle.worked.specs.Made.{Case, refuses, made, marked, head, wrong, empty}
 
--- "Log: 30; then block by block 31, 32, 33, and after block 0's layout its setup, 1 to 4, before block 1 is looked at."
+-- "Log: 30; then block by block 31, 32, 33, and after block 0's layout its setup, 1 to 4,
+-- before block 1 is looked at."
 abbrev pub orders : List Case
 orders =
     refuses 30 0 (wrong ++ 0 ∷ [])

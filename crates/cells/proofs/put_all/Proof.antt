@@ -18,32 +18,11 @@ abbrev μ-loop : tie.MeasureT-loop
 loop-holds : tie.Need-loop-holds Inv-loop μ-loop
 loop-holds c = (search needs, search needs, rw (add-zero (c .args .at)) (wrote-nothing _ _))
 
-shared-slice-read-out : tie.Need-shared-slice-read-out Inv-loop μ-loop
-shared-slice-read-out c = search needs
-
-add-out : tie.Need-add-out Inv-loop μ-loop
-add-out c = search needs
-
-slice-write-out : tie.Need-slice-write-out Inv-loop μ-loop
-slice-write-out c = search needs
-
-add-i : tie.Need-add-i Inv-loop μ-loop
-add-i c = search needs
-
-loop-less : tie.Need-loop-less Inv-loop μ-loop
-loop-less c = search needs
-
 loop-again : tie.Need-loop-again Inv-loop μ-loop
 loop-again c =
     let at = c .before .before in
     let s = at .before .args .s .now in
     (search needs, search needs, wrote-more s (at .loop .i) (search needs) (search needs) (at .loop .inv .2))
-
-add-result : tie.Need-add-result Inv-loop μ-loop
-add-result c = search needs
-
-same-length : tie.Need-same-length Inv-loop μ-loop
-same-length c = search needs
 
 returns : tie.Need-returns Inv-loop μ-loop
 returns c =
@@ -57,12 +36,7 @@ put-all-spec =
     Inv-loop
     μ-loop
     loop-holds
-    shared-slice-read-out
-    add-out
-    slice-write-out
-    add-i
-    loop-less
+    (λ c. search needs) (λ c. search needs) (λ c. search needs) (λ c. search needs) (λ c. search needs)
     loop-again
-    add-result
-    same-length
+    (λ c. search needs) (λ c. search needs)
     returns)

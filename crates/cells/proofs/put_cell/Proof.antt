@@ -5,15 +5,6 @@ use borrow.Author.Needs.{needs}
 use Rattle.cells.proofs.put_cell.Statement.{statement}
 use Rattle.cells.proofs.put_cell.Tie as tie
 
-put-decimal-requires : tie.Need-put-decimal-requires
-put-decimal-requires c κs = search needs
-
-put-byte-requires : tie.Need-put-byte-requires
-put-byte-requires c κs = search needs
-
-same-length : tie.Need-same-length
-same-length c = search needs
-
 returns : tie.Need-returns
 returns c =
     let p = c .before .before .before .before .before .before .put-decimal .ensures in
@@ -21,4 +12,4 @@ returns c =
     record { wrote = wrote-then (p .wrote) q; short = omega (arith, p .short, q .place) }
 
 pub put-cell-spec : {M : Type 1} → statement M
-put-cell-spec = tie.close (tie.spec put-decimal-requires put-byte-requires same-length returns)
+put-cell-spec = tie.close (tie.spec (λ c κs. search needs) (λ c κs. search needs) (λ c. search needs) returns)

@@ -6,7 +6,8 @@ use Rattle.cells.proofs.put_pair.Tie as tie
 
 returns : tie.Need-returns
 returns c =
-    wrote-then (c .before .before .before .before .before .before .put-byte .ensures) (c .before .before .put-byte2 .ensures)
+    let ten = c .before .before .before .before .before .before .put-byte .ensures in
+    wrote-then ten (c .before .before .put-byte2 .ensures)
 
 pub put-pair-spec : {M : Type 1} → statement M
 put-pair-spec =

@@ -4,12 +4,11 @@ use Rattle.laws.proofs.Unique.{made-promised}
 use Rattle.example_tracker.proofs.drain.Statement.{statement}
 use Rattle.example_tracker.proofs.drain.Tie as tie
 
-drain-through-requires : tie.Need-drain-through-requires
-drain-through-requires c κs = search needs
-
 returns : tie.Need-returns
 returns c =
-    made-promised (c .before .before .args .run) _ _ (c .before .drain-through .result .run) (c .before .before .pre) (c .before .drain-through .ensures)
+    let start = c .before .before in
+    let moved = c .before .drain-through in
+    made-promised (start .args .run) _ _ (moved .result .run) (start .pre) (moved .ensures)
 
 pub drain-spec : {M : Type 1} → statement M
-drain-spec = tie.close (tie.spec drain-through-requires returns)
+drain-spec = tie.close (tie.spec (λ c κs. search needs) returns)

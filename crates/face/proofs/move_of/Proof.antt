@@ -6,7 +6,9 @@ use Rattle.face.proofs.move_of.Statement.{statement}
 use Rattle.face.proofs.move_of.Tie as tie
 
 returns : tie.Need-returns
-returns c = ap (λ (n : ℕ). record { refusal = n; run = c .before .before .args .moved .run }) (c .before .call-number .ensures)
+returns c =
+    let run = c .before .before .args .moved .run in
+    ap (λ (n : ℕ). record { refusal = n; run = run }) (c .before .call-number .ensures)
 
 pub move-of-spec : {M : Type 1} → statement M
 move-of-spec = tie.close (tie.spec (λ c κs. search needs) returns)

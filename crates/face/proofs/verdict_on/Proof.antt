@@ -19,11 +19,12 @@ record-count-requires : tie.Need-record-count-requires
 record-count-requires c κs = reads c
 
 cast-t7 : tie.Need-cast-t7
-cast-t7 c = omega (arith, c .record-count .ensures, column-most 0 (now (c .before .before .before .before .before .args .log)) (reads (c .before)))
+cast-t7 c = omega (arith, c .record-count .ensures, column-most 0 _ (reads (c .before)))
 
 cast-t8 : tie.Need-cast-t8
 cast-t8 c =
-    omega (arith, refused-small (now (c .before .before .before .before .before .args .log)) _ _ (sym (c .before .before .before .judge .ensures) ∙ ap told (c .before .verdict .given .1)))
+    let at = c .before in
+    omega (arith, refused-small _ _ _ (sym (at .before .before .judge .ensures) ∙ ap told (at .verdict .given .1)))
 
 returns : tie.Need-returns
 returns c =
@@ -33,14 +34,15 @@ returns c =
 
 returns-2 : tie.Need-returns-2
 returns-2 c =
-    sym (ap (verdictFace (now (c .before .before .before .before .before .args .log))) (sym (c .before .before .before .judge .ensures) ∙ ap told (c .before .verdict .given .1)))
+    let at = c .before in
+    let log = now (at .before .before .before .before .args .log) in
+    sym (ap (verdictFace log) (sym (at .before .before .judge .ensures) ∙ ap told (at .verdict .given .1)))
 
 pub verdict-on-spec : {M : Type 1} → statement M
 verdict-on-spec =
     tie.close
     (tie.spec
-    (λ c κs. search needs)
-    (λ c. search needs)
+    (λ c κs. search needs) (λ c. search needs)
     record-count-requires
     cast-t7
     (λ c. search needs)

@@ -1,9 +1,7 @@
--- `report::fill` meets its contract. The invariant: the first i rows stand in the columns, and the place is that of row i.
--- Assumes nothing.
+-- `report::fill` meets its contract. The invariant: the first i rows stand in the columns, and the place is that of
+-- row i. Assumes nothing.
 use Prim.Native.Nat.{_-_}
-use native.Mathlib.Omega.{arith}
 use borrow.Author.Needs.{needs}
-use denote.Ref.{now}
 use Rattle.report.proofs.Filling.{Going, going-start, going-more, going-all}
 use Rattle.report.proofs.fill.Statement.{statement}
 use Rattle.report.proofs.fill.Tie as tie
@@ -44,14 +42,7 @@ fill-spec =
     record-count-requires
     loop-holds
     take-at-requires
-    (λ c κs. search needs)
-    (λ c. search needs)
-    (λ c. search needs)
-    (λ c. search needs)
-    (λ c. search needs)
-    (λ c. search needs)
-    (λ c. search needs)
-    (λ c. search needs)
-    (λ c. search needs)
+    (λ c κs. search needs) (λ c. search needs) (λ c. search needs) (λ c. search needs) (λ c. search needs)
+    (λ c. search needs) (λ c. search needs) (λ c. search needs) (λ c. search needs)
     loop-again
     returns)

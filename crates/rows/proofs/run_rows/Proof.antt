@@ -1,47 +1,41 @@
--- `rows::run_rows` meets its contract. The invariant: `Going`, what is known of the parts and of every row's completion after
--- the first i rows. Assumes nothing.
-use Prim.Native.Nat.{_-_}
+-- `rows::run_rows` meets its contract. The invariant: `Going`, what is known of the parts and of every row's
+-- completion after the first i rows. Assumes nothing.
+use Prim.Native.Nat.{_-_, _<_}
 use native.Mathlib.Omega.{arith}
 use lib.ListN.{length}
 use borrow.Author.Needs.{needs}
-use Rattle.rows.proofs.Running.{Going, going-start, going-known, going-step, going-refused, going-room, going-mark, going-end}
+use Rattle.lists.specs.Lists.{at}
+use Rattle.rows.proofs.Running.{Going, going-start, going-known, going-step}
+use Rattle.rows.proofs.Running.{going-refused, going-room, going-mark, going-end}
 use Rattle.rows.proofs.run_rows.Statement.{statement}
 use Rattle.rows.proofs.run_rows.Tie as tie
 
 abbrev Inv-loop : tie.InvT-loop
-Inv-loop setup times tasks amounts noted₀ queue₀ owed₀ given₀ done₀ last₀ cursor₀ i₀ noted queue owed given done last cursor i =
-    Going setup times tasks amounts noted₀ cursor queue owed given done last noted i
+Inv-loop p ts ks ms noted₀ q₀ o₀ g₀ d₀ last₀ cursor₀ i₀ noted q o g d last cursor i =
+    Going p ts ks ms noted₀ cursor q o g d last noted i
 
 abbrev μ-loop : tie.MeasureT-loop
-μ-loop setup times tasks amounts noted₀ queue₀ owed₀ given₀ done₀ last₀ cursor₀ i₀ noted queue owed given done last cursor i =
-    length times - i
+μ-loop p ts ks ms noted₀ q₀ o₀ g₀ d₀ last₀ cursor₀ i₀ noted q o g d last cursor i = length ts - i
+
+-- the places: the call's start, from inside the loop; inside the loop, from the row that was asked; and from past the
+-- test of its refusal
+abbrev start : tie.In-loop Inv-loop μ-loop → tie.Start Inv-loop μ-loop
+start c = c .before .before .before .before .before .before
+
+abbrev inside : tie.After-ask Inv-loop μ-loop → tie.In-loop Inv-loop μ-loop
+inside c = c .before .before .before .before .before .before .before .before
+
+abbrev here : tie.Else1 Inv-loop μ-loop → tie.In-loop Inv-loop μ-loop
+here c = inside (c .before .before)
+
+-- the task of an accepted row
+known : (c : tie.Else1 Inv-loop μ-loop) → at (start (here c) .args .tasks .now) (here c .before .loop .i) < 32
+known c =
+    going-known (start (here c) .pre) (here c .before .loop .inv) (here c .loop-test .taken)
+    (c .before .before .ask .ensures) (c .if1 .left)
 
 loop-holds : tie.Need-loop-holds Inv-loop μ-loop
-loop-holds c = going-start _ _ _ _ _ (c .before .before .before .before .pre .accepted)
-
-mul-task : tie.Need-mul-task Inv-loop μ-loop
-mul-task c = search needs
-
-shared-slice-read-task : tie.Need-shared-slice-read-task Inv-loop μ-loop
-shared-slice-read-task c = search needs
-
-cast-row : tie.Need-cast-row Inv-loop μ-loop
-cast-row c = search needs
-
-add-row : tie.Need-add-row Inv-loop μ-loop
-add-row c = search needs
-
-mul-ask : tie.Need-mul-ask Inv-loop μ-loop
-mul-ask c = search needs
-
-shared-slice-read-ask : tie.Need-shared-slice-read-ask Inv-loop μ-loop
-shared-slice-read-ask c = search needs
-
-mul-ask-2 : tie.Need-mul-ask-2 Inv-loop μ-loop
-mul-ask-2 c = search needs
-
-shared-slice-read-ask-2 : tie.Need-shared-slice-read-ask-2 Inv-loop μ-loop
-shared-slice-read-ask-2 c = search needs
+loop-holds c = going-start (c .before .before .before .before .pre .accepted)
 
 ask-requires : tie.Need-ask-requires Inv-loop μ-loop
 ask-requires c κs =
@@ -49,52 +43,41 @@ ask-requires c κs =
     (inv .kept, inv .sound)
 
 same-length : tie.Need-same-length Inv-loop μ-loop
-same-length c = c .before .before .before .before .before .before .before .before .before .before .before .loop .inv .rows .room
+same-length c = inside (c .before .before) .before .loop .inv .rows .room
 
 returns : tie.Need-returns Inv-loop μ-loop
 returns c =
     let asking = c .before .before in
-    let here = asking .before .before .before .before .before .before .before .before in
-    let fitting = here .before .before .before .before .before .before .pre in
-    going-refused _ _ _ _ _ fitting (here .before .loop .inv) (here .loop-test .taken) (asking .ask .result) (asking .ask .ensures) (c .if1 .taken) _
+    going-refused (start (inside asking) .pre) (inside asking .before .loop .inv) (inside asking .loop-test .taken)
+    (asking .ask .ensures) (c .if1 .taken) _
 
 cast-note : tie.Need-cast-note Inv-loop μ-loop
-cast-note c =
-    let asking = c .before .before in
-    let here = asking .before .before .before .before .before .before .before .before in
-    let fitting = here .before .before .before .before .before .before .pre in
-    omega (arith, going-known _ _ _ _ _ fitting (here .before .loop .inv) (here .loop-test .taken) (asking .ask .result) (asking .ask .ensures) (c .if1 .left))
+cast-note c = omega (arith, known c)
 
 note-requires : tie.Need-note-requires Inv-loop μ-loop
 note-requires c κs =
-    let asking = c .before .before .before .before .before in
-    let here = asking .before .before .before .before .before .before .before .before in
-    let fitting = here .before .before .before .before .before .before .pre in (
-      going-known _ _ _ _ _ fitting (here .before .loop .inv) (here .loop-test .taken) (asking .ask .result) (asking .ask .ensures) (c .before .before .before .if1 .left),
-      going-mark _ _ _ _ _ fitting (here .before .loop .inv) _ (here .loop-test .taken),
-    )
+    let past = c .before .before .before in
+    let h = here past in
+    (known past, going-mark (start h .pre) (h .before .loop .inv) _ (h .loop-test .taken))
 
 add-i : tie.Need-add-i Inv-loop μ-loop
 add-i c =
-    let here = c .before .before .before .before .before .before .before .before .before .before .before .before .before .before .before .before .before in
-    omega (arith, here .loop-test .taken, here .before .before .before .before .before .before .pre .few)
-
-loop-less : tie.Need-loop-less Inv-loop μ-loop
-loop-less c = search needs
+    let h = here (c .before .before .before .before .before .before .before) in
+    omega (arith, h .loop-test .taken, start h .pre .few)
 
 loop-again : tie.Need-loop-again Inv-loop μ-loop
 loop-again c =
     let noting = c .before .before .before in
-    let asking = noting .before .before .before .before .before .before in
-    let here = asking .before .before .before .before .before .before .before .before in
-    let fitting = here .before .before .before .before .before .before .pre in
-    going-step _ _ _ _ _ fitting (here .before .loop .inv) (here .loop-test .taken) (asking .ask .result) (asking .ask .ensures) (noting .before .before .before .before .if1 .left)
-    (noting .note .ensures .0) (noting .note .ensures .1)
+    let past = noting .before .before .before .before in
+    let h = here past in
+    going-step (start h .pre) (h .before .loop .inv) (h .loop-test .taken) (past .before .before .ask .ensures)
+    (past .if1 .left) (noting .note .ensures .0) (noting .note .ensures .1)
 
 drain-on-requires : tie.Need-drain-on-requires Inv-loop μ-loop
 drain-on-requires c κs =
-    let inv = c .before .before .before .before .before .loop .inv in
-    (inv .kept, (inv .sound, going-room _ _ _ _ _ (c .before .before .before .before .before .before .before .before .before .before .pre) inv))
+    let at-end = c .before .before .before .before .before in
+    let inv = at-end .loop .inv in
+    (inv .kept, (inv .sound, going-room (at-end .before .before .before .before .before .pre) inv))
 
 same-length-2 : tie.Need-same-length-2 Inv-loop μ-loop
 same-length-2 c = c .before .before .before .before .before .before .loop .inv .rows .room
@@ -102,7 +85,8 @@ same-length-2 c = c .before .before .before .before .before .before .loop .inv .
 returns-2 : tie.Need-returns-2 Inv-loop μ-loop
 returns-2 c =
     let ended = c .before .before .before .before .before in
-    going-end _ _ _ _ _ (ended .before .before .before .before .before .before .pre) (ended .before .loop .inv) (ended .loop-test .left) (c .drain-on .result) (c .drain-on .ensures)
+    going-end (ended .before .before .before .before .before .before .pre) (ended .before .loop .inv)
+    (ended .loop-test .left) (c .drain-on .ensures)
 
 pub run-rows-spec : {M : Type 1} → statement M
 run-rows-spec =
@@ -111,21 +95,15 @@ run-rows-spec =
     Inv-loop
     μ-loop
     loop-holds
-    mul-task
-    shared-slice-read-task
-    cast-row
-    add-row
-    mul-ask
-    shared-slice-read-ask
-    mul-ask-2
-    shared-slice-read-ask-2
+    (λ c. search needs) (λ c. search needs) (λ c. search needs) (λ c. search needs) (λ c. search needs)
+    (λ c. search needs) (λ c. search needs) (λ c. search needs)
     ask-requires
     same-length
     returns
     cast-note
     note-requires
     add-i
-    loop-less
+    (λ c. search needs)
     loop-again
     drain-on-requires
     same-length-2

@@ -1,11 +1,11 @@
 -- `table::table` meets its contract: refused by its setup, refused by its columns, or run. Assumes nothing.
-use mathlib.Core.Path.{_≡_, sym, _∙_, subst}
+use mathlib.Core.Path.{_≡_, sym, _∙_}
 use borrow.Author.Needs.{needs}
 use denote.Ref.{now}
 use Rattle.rule.specs.Setups.{asked, setupRefusal}
 use Rattle.rule.specs.declared.Setup.{Setup}
 use Rattle.setups.proofs.Judging.{judged-accepted}
-use Rattle.table.proofs.Columns.{table-misset, table-misfit, table-runs}
+use Rattle.table.proofs.Columns.{table-misset, table-misfit, tabled-asked, table-asked}
 use Rattle.table.proofs.table.Statement.{statement}
 use Rattle.table.proofs.table.Tie as tie
 
@@ -22,16 +22,10 @@ wanted c = asked (c .args .policy) (c .args .count) (c .args .slice) (now (c .ar
 setup-fits : (c : tie.Else1) → setupRefusal (wanted (start c)) ≡ 0
 setup-fits c = sym (c .before .judged-setup .ensures .number) ∙ c .if1 .left
 
-judged-setup-requires : tie.Need-judged-setup-requires
-judged-setup-requires c κs = search needs
-
 returns : tie.Need-returns
 returns c =
     let s = c .before .before .before .before .before .before .before in
     table-misset (wanted s) _ _ _ _ _ (c .before .judged-setup .ensures .number) (c .if1 .taken)
-
-column-refusal-requires : tie.Need-column-refusal-requires
-column-refusal-requires c κs = search needs
 
 returns-2 : tie.Need-returns-2
 returns-2 c =
@@ -44,30 +38,23 @@ setup-asked c = judged-accepted (past1 c .before .judged-setup .ensures) (setup-
 
 run-table-requires : tie.Need-run-table-requires
 run-table-requires c κs =
-    let two = c .before in (
-      subst (λ (p : Setup). setupRefusal p ≡ 0) (sym (setup-asked two)) (setup-fits (past1 two)),
-      sym (two .before .column-refusal .ensures) ∙ two .if2 .left,
-    )
-
-same-length : tie.Need-same-length
-same-length c = search needs
+    let two = c .before in
+    let args = start (past1 two) .args in
+    tabled-asked _ (now (args .times)) (now (args .tasks)) (now (args .amounts)) (now (args .result)) (setup-asked two)
+    (setup-fits (past1 two)) (sym (two .before .column-refusal .ensures) ∙ two .if2 .left)
 
 returns-3 : tie.Need-returns-3
 returns-3 c =
-    let two = c .before .before .before .before in
-    table-runs (wanted (start (past1 two))) _ _ _ _ (setup-fits (past1 two))
-    (sym (two .before .column-refusal .ensures) ∙ two .if2 .left)
-    (setup-asked two)
-    (c .before .before .run-table .ensures)
+    table-asked _ _ _ _ _ (setup-asked (c .before .before .before .before)) (c .before .before .run-table .ensures)
 
 pub table-spec : {M : Type 1} → statement M
 table-spec =
     tie.close
     (tie.spec
-    judged-setup-requires
+    (λ c κs. search needs)
     returns
-    column-refusal-requires
+    (λ c κs. search needs)
     returns-2
     run-table-requires
-    same-length
+    (λ c. search needs)
     returns-3)

@@ -6,18 +6,6 @@ use borrow.Author.Needs.{needs}
 use Rattle.text.proofs.put_refused.Statement.{statement}
 use Rattle.text.proofs.put_refused.Tie as tie
 
-slice-aggregate-put-named : tie.Need-slice-aggregate-put-named
-slice-aggregate-put-named c = search needs
-
-put-named-requires : tie.Need-put-named-requires
-put-named-requires c κs = search needs
-
-slice-aggregate-put-named-2 : tie.Need-slice-aggregate-put-named-2
-slice-aggregate-put-named-2 c = search needs
-
-put-named-requires-2 : tie.Need-put-named-requires-2
-put-named-requires-2 c κs = search needs
-
 returns : tie.Need-returns
 returns c =
     let a = c .before .before .before .put-named .ensures in
@@ -31,8 +19,5 @@ pub put-refused-spec : {M : Type 1} → statement M
 put-refused-spec =
     tie.close
     (tie.spec
-    slice-aggregate-put-named
-    put-named-requires
-    slice-aggregate-put-named-2
-    put-named-requires-2
+    (λ c. search needs) (λ c κs. search needs) (λ c. search needs) (λ c κs. search needs)
     returns)

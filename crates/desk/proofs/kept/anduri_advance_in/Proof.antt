@@ -1,4 +1,5 @@
--- `desk::kept::anduri_advance_in` meets its contract: by the law `moves`, from what `anduri_advance` ensures. Assumes nothing.
+-- `desk::kept::anduri_advance_in` meets its contract: by the law `moves` and what `anduri_advance` ensures.
+-- Assumes nothing.
 use mathlib.Core.List.{[], _∷_}
 use mir.Syntax.{w32}
 use contract.Monad.{fact}

@@ -1,4 +1,5 @@
--- `desk::kept::anduri_clock_of` meets its contract: by the law `reads`, from what `anduri_clock` ensures. Assumes nothing.
+-- `desk::kept::anduri_clock_of` meets its contract: by the law `reads` and what `anduri_clock` ensures.
+-- Assumes nothing.
 use mathlib.Core.Path.{_≡_}
 use mathlib.Core.List.{[]}
 use mir.Syntax.{w32}

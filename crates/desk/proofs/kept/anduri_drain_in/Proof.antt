@@ -1,4 +1,5 @@
--- `desk::kept::anduri_drain_in` meets its contract: by the law `moves`, from what `anduri_drain` ensures. Assumes nothing.
+-- `desk::kept::anduri_drain_in` meets its contract: by the law `moves` and what `anduri_drain` ensures.
+-- Assumes nothing.
 use mathlib.Core.List.{[]}
 use contract.Monad.{fact}
 use Rattle.rule.specs.Calls.{drain}

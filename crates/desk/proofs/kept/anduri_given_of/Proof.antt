@@ -1,4 +1,5 @@
--- `desk::kept::anduri_given_of` meets its contract: by the law `reads`, from what `anduri_given` ensures. Assumes nothing.
+-- `desk::kept::anduri_given_of` meets its contract: by the law `reads` and what `anduri_given` ensures.
+-- Assumes nothing.
 use mathlib.Core.Path.{_≡_}
 use mathlib.Core.List.{[], _∷_}
 use mir.Syntax.{w32}

@@ -1,4 +1,5 @@
--- `desk::kept::anduri_next_of` meets its contract: by the law `reads`, from what `anduri_next` ensures. Assumes nothing.
+-- `desk::kept::anduri_next_of` meets its contract: by the law `reads` and what `anduri_next` ensures.
+-- Assumes nothing.
 use mathlib.Core.Path.{_≡_}
 use mathlib.Core.List.{[]}
 use contract.Monad.{fact}

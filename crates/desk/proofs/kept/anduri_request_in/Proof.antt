@@ -1,4 +1,5 @@
--- `desk::kept::anduri_request_in` meets its contract: by the law `moves`, from what `anduri_request` ensures. Assumes nothing.
+-- `desk::kept::anduri_request_in` meets its contract: by the law `moves` and what `anduri_request` ensures.
+-- Assumes nothing.
 use mathlib.Core.List.{[], _∷_}
 use mir.Syntax.{w32}
 use contract.Monad.{fact}
@@ -16,6 +17,7 @@ use Rattle.desk.proofs.kept.anduri_request_in.Code as code
 pub anduri-request-in-spec : {M : Type 1} → statement M
 unfolding code.routine
 anduri-request-in-spec 𝓤 H 𝓜 𝓖 𝓡 =
-    moves (number w32 ∷ number w32 ∷ number w32 ∷ []) move-parts (λ n. n) (λ h a n h′. Promised h (request (a .0) (a .1 .0) (a .1 .1 .0)) n h′)
+    moves (number w32 ∷ number w32 ∷ number w32 ∷ []) move-parts (λ n. n)
+    (λ h a n h′. Promised h (request (a .0) (a .1 .0) (a .1 .1 .0)) n h′)
     𝓤 H 𝓜 𝓖 𝓡 (λ h a. fact 𝓤 (MadeRun h)) code.env name by-value.name
     (code.unfolded 𝓤 H 𝓜 𝓡) by-value.routine code.calls-desk·anduri-request (met 𝓤 H 𝓜 𝓖 𝓡)

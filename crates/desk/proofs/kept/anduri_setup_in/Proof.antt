@@ -1,4 +1,5 @@
--- `desk::kept::anduri_setup_in` meets its contract: by the law `moves`, from what `set_up_anew` ensures. Assumes nothing.
+-- `desk::kept::anduri_setup_in` meets its contract: by the law `moves` and what `set_up_anew` ensures.
+-- Assumes nothing.
 use mathlib.Core.List.{[], _∷_}
 use base.Logic.{emp}
 use Rattle.tracker.specs.Restarted.{Restarted}
