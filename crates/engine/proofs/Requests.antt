@@ -18,7 +18,7 @@ use Rattle.requests.proofs.Early.{early-between, refusal-now, refusal-open, ref
 use Rattle.line.specs.Places.{queueAt}
 use Rattle.steps.specs.Parts.{parts, Kept}
 use Rattle.engine.specs.Inner.{Opens}
-use Rattle.engine.specs.Promises.{Reached, asked, Asks}
+use Rattle.engine.specs.Promises.{Reached, afterAsk, Asks}
 use Rattle.steps.specs.declared.Cursor.{Cursor}
 use Rattle.line.proofs.Queues.{queueAt-length}
 
@@ -28,20 +28,20 @@ module _ (s : State) (t k a : ℕ) where
   abbrev early : ℕ
   early = earlyRefusal (s .setup .count) (s .clock) t k a
 
-  asked-now : (early ≡ 0 → ⊥) → asked s t k a ≡ s
-  unfolding asked
+  asked-now : (early ≡ 0 → ⊥) → afterAsk s t k a ≡ s
+  unfolding afterAsk
   asked-now h =
       let r = requestRefusal s t k a in
       let e = refusal-now s t k a h in
       cond-false _ _ (ne-eqb r 0 (λ z. h (sym e ∙ z)))
       ∙ cond-false _ s (ne-eqb r 14 (λ z. omega (arith, early-between s t k a h .1, e)))
 
-  asked-open : requestRefusal s t k a ≡ 14 → asked s t k a ≡ moved s t
-  unfolding asked
+  asked-open : requestRefusal s t k a ≡ 14 → afterAsk s t k a ≡ moved s t
+  unfolding afterAsk
   asked-open e = rw e
 
-  pub asked-taken : requestRefusal s t k a ≡ 0 → asked s t k a ≡ opened (moved s t) k a
-  unfolding asked
+  pub asked-taken : requestRefusal s t k a ≡ 0 → afterAsk s t k a ≡ opened (moved s t) k a
+  unfolding afterAsk
   asked-taken e = rw e
 
 -- ---- the promise

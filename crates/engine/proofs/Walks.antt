@@ -62,8 +62,8 @@ module _ (time : ℕ) (s : Setup) (start : State) (c : Cursor) (q : List ℕ) wh
         record { kept = G .kept; sound = G .sound; shown = G .shown ∙ ap (λ (k : ℕ). ticks k start) e }
 
 -- a drain is a move by what is owed
-pub drained-moved : (s : State) → moved s (s .clock + total (s .owed)) ≡ drained s
+pub moved-drained : (s : State) → moved s (s .clock + total (s .owed)) ≡ drained s
 unfolding moved drained
-drained-moved s =
+moved-drained s =
     let e : s .clock + total (s .owed) - s .clock ≡ total (s .owed) = omega arith in
     ap (λ (k : ℕ). ticks k s) e

@@ -29,15 +29,15 @@ pub record Reached (s : Setup) (r : Cursor) (q : List ℕ) (aim after : State) :
 
 -- What a request leaves of the parts' state. Accepted, it has opened the task. Refused by 10 to 13, it has changed
 -- nothing. Refused by 14, it has moved the clock: who asked by value keeps the run, and a table stops.
-unfoldable pub asked : State → ℕ → ℕ → ℕ → State
-asked s t k a =
+unfoldable pub afterAsk : State → ℕ → ℕ → ℕ → State
+afterAsk s t k a =
     cond (eqb (requestRefusal s t k a) 0) (opened (moved s t) k a)
     (cond (eqb (requestRefusal s t k a) 14) (moved s t) s)
 
 -- A request's answer, and what it leaves.
 pub record Asks (s : Setup) (t k a : ℕ) (r : Asked) (q : List ℕ) (before after : State) : Type 0 where
   pub answer : r .refusal ≡ requestRefusal before t k a
-  pub left : Reached s (r .cursor) q (asked before t k a) after
+  pub left : Reached s (r .cursor) q (afterAsk before t k a) after
 
 -- ---- the next completion
 

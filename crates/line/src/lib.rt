@@ -10,7 +10,7 @@ ghost use lib.Seq.{paste};
 ghost use Rattle.line.specs.Places.{ring, takenOut, Tasks, Best, Heads};
 
 // A stretch of q is put into an array.
-fn put(into: [u8; 32], at: usize, q: [u8; 32], from: usize, count: usize) -> [u8; 32]
+fn put_stretch(into: [u8; 32], at: usize, q: [u8; 32], from: usize, count: usize) -> [u8; 32]
     requires { ⌜ (at + count ≤ 32) × (from + count ≤ 32) ⌝ }
     ensures { λ r. ⌜ r ≡ paste into at (drop from q) count ⌝ }
 {
@@ -31,8 +31,8 @@ pub fn straight(q: [u8; 32], head: usize, n: usize) -> [u8; 32]
     if head == 0 {
         return q;
     }
-    let part = put(q, 0, q, head, n - head);
-    put(part, n - head, q, 0, head)
+    let part = put_stretch(q, 0, q, head, n - head);
+    put_stretch(part, n - head, q, 0, head)
 }
 
 // The task at a place leaves, and those of the n tasks that are behind it move up.

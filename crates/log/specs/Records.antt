@@ -69,11 +69,11 @@ afterLog (refused n i) next = refused n i
 unfoldable pub blockAsked : List ℕ → ℕ → Verdict
 blockAsked log i = afterLog (judged log) (cond (leb 1 i && ltb i (blocks log)) accepted (refused 34 0))
 
-abbrev pub unlessRefused : Verdict → List ℕ → List ℕ
-unlessRefused accepted bytes = bytes
-unlessRefused (refused n i) bytes = []
+abbrev pub orNone : Verdict → List ℕ → List ℕ
+orNone accepted bytes = bytes
+orNone (refused n i) bytes = []
 
 -- "that stretch of the caller's log": "12 times the record count, from byte 8 of the block"; empty where it is
 -- refused
 unfoldable pub stretch : List ℕ → ℕ → List ℕ
-stretch log i = unlessRefused (blockAsked log i) (take (12 * count (block log i)) (drop (512 * i + 8) log))
+stretch log i = orNone (blockAsked log i) (take (12 * count (block log i)) (drop (512 * i + 8) log))

@@ -18,7 +18,7 @@ use Rattle.log.specs.declared.Record.{Record}
 use Rattle.judging.proofs.Accepted.{accepted-counted, word-block}
 use Rattle.log.proofs.Rows.{column-blocks, column-most, column-some, row-here, found-row, found-none}
 use Rattle.places.specs.declared.Taken.{Taken}
-use Rattle.places.specs.Places.{rowNumber, hasRow, takenAt, Reached, Stands, firstBlock}
+use Rattle.places.specs.Places.{rowNumber, hasRow, takenAt, PlaceOf, Stands, firstBlock}
 
 -- ---- whether a record is at a place
 
@@ -28,7 +28,7 @@ has-row-true log b r low h = rw (le-leb 1 b low, lt-ltb (rowNumber b r) (length 
 pub has-row-zero : (log : List ℕ) (b r : ℕ) → b ≡ 0 → hasRow log b r ≡ false
 has-row-zero log b r e = rw (lt-leb 1 b (omega arith))
 
-module _ (log : List ℕ) (b r : ℕ) (low : 0 < b) (s : Reached log b r) where
+module _ (log : List ℕ) (b r : ℕ) (low : 0 < b) (s : PlaceOf log b r) where
   has-row-false : length (askedTimes log) ≤ rowNumber b r → hasRow log b r ≡ false
   has-row-false h = rw (le-leb 1 b low, le-ltb (rowNumber b r) (length (askedTimes log)) h)
 
@@ -79,7 +79,7 @@ pub record RowRead (log : List ℕ) (b r : ℕ) (x : Record) : Type 0 where
   pub has : hasRow log b r ≡ true
   pub row : x ≡ rowAt log (rowNumber b r)
 
-pub row-read : (log : List ℕ) (b r t k m : ℕ) → 0 < b → Reached log b r → rowNumber b r < length (askedTimes log)
+pub row-read : (log : List ℕ) (b r t k m : ℕ) → 0 < b → PlaceOf log b r → rowNumber b r < length (askedTimes log)
     → t ≡ word log (512 * b + 8 + 12 * r) → k ≡ word log (512 * b + 8 + 12 * r + 4)
     → m ≡ word log (512 * b + 8 + 12 * r + 8) → RowRead log b r (record { time = t; task = k; amount = m })
 row-read log b r t k m low s h et ek em =
@@ -103,7 +103,7 @@ module _ {log : List ℕ} {b r : ℕ} {x : Record} (read : RowRead log b r x) wh
 
 -- ---- the places that reading reaches
 
-pub first-reached : (log : List ℕ) → Reads log → Reached log 1 0
+pub first-reached : (log : List ℕ) → Reads log → PlaceOf log 1 0
 first-reached log r = record { reads = r; few = omega arith; inside = omega arith }
 
 verdict-stands : (log : List ℕ) (v : Verdict) → judged log ≡ v → Stands log (firstBlock v) 0
@@ -117,11 +117,11 @@ first-stands log = verdict-stands log (judged log) refl
 pub record Taking (log : List ℕ) (b r n : ℕ) (t : Taken) : Type 0 where
   pub finds : t .found ≡ found log n
   pub past-zero : 0 < t .block
-  pub reached : Reached log (t .block) (t .«record»)
+  pub reached : PlaceOf log (t .block) (t .«record»)
   pub goes : n < length (askedTimes log) → rowNumber (t .block) (t .«record») ≡ n + 1
   pub stays : length (askedTimes log) ≤ n → (t .block ≡ b) × (t .«record» ≡ r)
 
-pub taking : (log : List ℕ) (b r : ℕ) → 0 < b → Reached log b r → Taking log b r (rowNumber b r) (takenAt log b r)
+pub taking : (log : List ℕ) (b r : ℕ) → 0 < b → PlaceOf log b r → Taking log b r (rowNumber b r) (takenAt log b r)
 unfolding takenAt
 taking log b r low s =
     let rows = length (askedTimes log) in

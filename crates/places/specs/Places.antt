@@ -40,14 +40,14 @@ unfoldable pub setupAt : List ℕ → ℕ → Setup
 setupAt log b = cond (leb 1 b) (setupOf log) plain
 
 -- a place that is reached from the first record of a log that reads
-pub record Reached (log : List ℕ) (b r : ℕ) : Type 0 where
+pub record PlaceOf (log : List ℕ) (b r : ℕ) : Type 0 where
   pub reads : Reads log
   pub few : r < 41
   pub inside : rowNumber b r ≤ length (askedTimes log)
 
 -- "made by .. opening and calls on it": a refused opening leaves the reader at block 0, where it finds no record
 abbrev pub Stands : List ℕ → ℕ → ℕ → Type 0
-Stands log b r = 0 < b → Reached log b r
+Stands log b r = 0 < b → PlaceOf log b r
 
 -- ---- the beginning
 
@@ -56,6 +56,6 @@ abbrev pub firstBlock : Verdict → ℕ
 firstBlock accepted = 1
 firstBlock (refused n i) = 0
 
-pub record Started (log : List ℕ) (s : Start) : Type 0 where
+pub record Begins (log : List ℕ) (s : Start) : Type 0 where
   pub verdict : told (s .verdict) ≡ judged log
   pub block : s .block ≡ firstBlock (judged log)

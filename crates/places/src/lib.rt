@@ -1,7 +1,7 @@
 // The places of a log, each a block's number and a record's: what stands there and which place is after it, the
 // setup, and where reading begins. All of it takes the caller's bytes and two numbers, which `reader::Reader` holds.
 ghost use mathlib.Core.Path.{_≡_};
-ghost use Rattle.places.specs.Places.{takenAt, setupAt, Stands, Started};
+ghost use Rattle.places.specs.Places.{takenAt, setupAt, Stands, Begins};
 use judging::Judged;
 use log::Found;
 use log::Record;
@@ -88,7 +88,7 @@ pub struct Start {
 
 // Judges the whole log. Reading begins at block 1, or at block 0, which has no records, where the log is refused.
 pub fn start_of(log: &[u8]) -> Start
-    ensures { λ r. ⌜ Started (now (log .entry)) r ⌝ }
+    ensures { λ r. ⌜ Begins (now (log .entry)) r ⌝ }
 {
     let verdict = judging::judge(log);
     match verdict {

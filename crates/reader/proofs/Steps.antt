@@ -15,12 +15,12 @@ use Rattle.log.specs.Records.{askedTimes, rowList, found}
 use Rattle.log.proofs.Rows.{row-list-length, row-list-at, found-row, found-none}
 use Rattle.log.specs.declared.Found.{Found}
 use Rattle.log.specs.declared.Found.the-variants.{End}
-use Rattle.places.specs.Places.{rowNumber, Reached, firstBlock}
+use Rattle.places.specs.Places.{rowNumber, PlaceOf, firstBlock}
 use Rattle.places.proofs.Places.{first-reached, first-stands, taking}
 use Rattle.reader.specs.declared.Reader.{Reader}
-use Rattle.reader.specs.Reading.{opened, Standing, nexts, foundRows}
+use Rattle.reader.specs.Reading.{readerOn, Standing, nexts, foundRows}
 
-pub opened-stands : (log : RefT (List ℕ)) → Standing (opened log)
+pub opened-stands : (log : RefT (List ℕ)) → Standing (readerOn log)
 opened-stands log = first-stands (now log)
 
 -- ---- reading on
@@ -39,7 +39,7 @@ from-none log n (suc m) h = rw (← found-none log n h, from-none log (n + 1) m 
 abbrev on : RefT (List ℕ) → ℕ → ℕ → Reader
 on log b r = record { log = log; block = b; «record» = r }
 
-nexts-none : (log : RefT (List ℕ)) (b r m : ℕ) → 0 < b → Reached (now log) b r
+nexts-none : (log : RefT (List ℕ)) (b r m : ℕ) → 0 < b → PlaceOf (now log) b r
     → length (askedTimes (now log)) ≤ rowNumber b r → nexts (on log b r) m ≡ replicate m End
 unfolding nexts
 nexts-none log b r zero low s h = refl
@@ -52,7 +52,7 @@ nexts-none log b r (suc m) low s h =
       nexts-none log b r m low s h,
     )
 
-nexts-from : (log : RefT (List ℕ)) (b r m : ℕ) → 0 < b → Reached (now log) b r
+nexts-from : (log : RefT (List ℕ)) (b r m : ℕ) → 0 < b → PlaceOf (now log) b r
     → nexts (on log b r) m ≡ foundFrom (now log) (rowNumber b r) m
 unfolding nexts foundFrom
 nexts-from log b r zero low s = refl
@@ -93,7 +93,7 @@ module _ (log : List ℕ) (reads : Reads log) where
 -- "knows its next record; after the last it says that there is none, and stays": from an opening all rows of the log
 -- are found, in their order, and after them no more, however often
 pub nexts-all : (log : RefT (List ℕ)) → Reads (now log) → (k : ℕ)
-    → nexts (opened log) (length (rowList (now log)) + k) ≡ foundRows (rowList (now log)) ++ replicate k End
+    → nexts (readerOn log) (length (rowList (now log)) + k) ≡ foundRows (rowList (now log)) ++ replicate k End
 nexts-all log reads k =
     ap (λ (v : Verdict). nexts (on log (firstBlock v) 0) (length (rowList (now log)) + k)) reads
     ∙ nexts-from log 1 0 _ (omega arith) (first-reached (now log) reads)

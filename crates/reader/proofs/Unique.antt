@@ -8,7 +8,7 @@ use Rattle.rule.specs.View.{Determined}
 use Rattle.judging.specs.Log.{judged}
 use Rattle.log.specs.declared.Found.{Found}
 use Rattle.judging.proofs.Unique.{told-determined}
-use Rattle.reader.specs.Reading.{OpenedOn, Stepped, FirstOf}
+use Rattle.reader.specs.Reading.{OpenedOn, NextIs, FirstOf}
 use Rattle.reader.specs.declared.Reader.{Reader}
 
 pub opened-determined : (log : RefT (List ℕ)) → Determined (OpenedOn log)
@@ -25,5 +25,5 @@ first-determined log x y p q =
       found = (p .found ∙ sym (q .found)) i;
     }
 
-pub next-determined : (reader : Reader) → Determined (λ (r : Found × Reader). Stepped reader (r .0) (r .1))
-next-determined reader x y p q = λ i. ((p .found ∙ sym (q .found)) i, (p .after ∙ sym (q .after)) i)
+pub step-determined : (reader : Reader) → Determined (λ (r : Found × Reader). NextIs reader (r .0) (r .1))
+step-determined reader x y p q = λ i. ((p .found ∙ sym (q .found)) i, (p .after ∙ sym (q .after)) i)

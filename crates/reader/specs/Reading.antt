@@ -17,12 +17,12 @@ use Rattle.reader.specs.declared.Reader.{Reader}
 -- ---- the reader
 
 -- the reader that an opening gives, on the caller's own bytes
-abbrev pub opened : RefT (List ℕ) → Reader
-opened log = record { log = log; block = firstBlock (judged (now log)); «record» = 0 }
+abbrev pub readerOn : RefT (List ℕ) → Reader
+readerOn log = record { log = log; block = firstBlock (judged (now log)); «record» = 0 }
 
 pub record OpenedOn (log : RefT (List ℕ)) (o : Opened) : Type 0 where
   pub verdict : told (o .verdict) ≡ judged (now log)
-  pub reader : o .reader ≡ opened log
+  pub reader : o .reader ≡ readerOn log
 
 abbrev pub Standing : Reader → Type 0
 Standing r = Stands (now (r .log)) (r .block) (r .«record»)
@@ -34,13 +34,13 @@ abbrev pub setupBy : Reader → Setup
 setupBy r = setupAt (now (r .log)) (r .block)
 
 -- the reader on the same bytes, at the place after
-abbrev pub moved : Reader → Reader
-moved r = record { log = r .log; block = takenBy r .block; «record» = takenBy r .«record» }
+abbrev pub readerPast : Reader → Reader
+readerPast r = record { log = r .log; block = takenBy r .block; «record» = takenBy r .«record» }
 
 -- what a step finds, and the reader at exit
-pub record Stepped (r : Reader) (f : Found) (exit : Reader) : Type 0 where
+pub record NextIs (r : Reader) (f : Found) (exit : Reader) : Type 0 where
   pub found : f ≡ takenBy r .found
-  pub after : exit ≡ moved r
+  pub after : exit ≡ readerPast r
 
 -- the first record of a log; none of a refused one
 abbrev pub firstFound : List ℕ → Found
@@ -55,7 +55,7 @@ pub record FirstOf (log : List ℕ) (f : First) : Type 0 where
 -- what n steps find
 unfoldable pub nexts : Reader → ℕ → List Found
 nexts r zero = []
-nexts r (suc n) = takenBy r .found ∷ nexts (moved r) n
+nexts r (suc n) = takenBy r .found ∷ nexts (readerPast r) n
 
 -- rows as a reader finds them
 unfoldable pub foundRows : List Call → List Found

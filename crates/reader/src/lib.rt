@@ -2,7 +2,7 @@
 // bytes and two numbers; here stand thin calls over the struct.
 ghost use mathlib.Core.Path.{_≡_};
 ghost use Rattle.places.specs.Places.{takenAt, Stands};
-ghost use Rattle.reader.specs.Reading.{OpenedOn, Standing, takenBy, setupBy, Stepped, FirstOf};
+ghost use Rattle.reader.specs.Reading.{OpenedOn, Standing, takenBy, setupBy, NextIs, FirstOf};
 use judging::Judged;
 use log::Found;
 use places::Taken;
@@ -59,7 +59,7 @@ pub fn setup_of<'a>(reader: Reader<'a>) -> Setup
 // The reader's next record, which it passes; after the last, that there is none, and it stays.
 pub fn next<'s, 'a>(reader: &'s mut Reader<'a>) -> Found
     requires { ⌜ Standing (now reader) ⌝ }
-    ensures { λ r. ⌜ Stepped (now (reader .entry)) r (now (reader .exit)) ⌝ }
+    ensures { λ r. ⌜ NextIs (now (reader .entry)) r (now (reader .exit)) ⌝ }
 {
     let taken = take_at(reader.log, reader.block, reader.record);
     reader.block = taken.block;

@@ -16,9 +16,9 @@ use Rattle.requests.specs.Early.{timeRefusal}
 pub shows-then : {r : Run} {s t : State} → Shows r s → s ≡ t → Shows r t
 shows-then h e = record { tidy = h .tidy; shown = h .shown ∙ e }
 
-pub promised-refused : (run : Run) (c : Call) (n m : ℕ) → n ≡ m → m ≡ refusal (view run) c → (m ≡ 0 → ⊥)
+pub refused-promised : (run : Run) (c : Call) (n m : ℕ) → n ≡ m → m ≡ refusal (view run) c → (m ≡ 0 → ⊥)
     → Shows run (view run) → Promised run c n run
-promised-refused run c n m f e z h =
+refused-promised run c n m f e z h =
     record { answer = f ∙ e; run = shows-then h (sym (refused-stays (view run) c (λ y. z (e ∙ y)))) }
 
 pub promised-accepted : (run : Run) (c : Call) (n m : ℕ) (r : Run) → n ≡ m → m ≡ refusal (view run) c → m ≡ 0

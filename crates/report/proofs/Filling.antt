@@ -12,7 +12,7 @@ use Rattle.judging.specs.Log.{Reads}
 use Rattle.log.specs.Records.{askedTimes, askedTasks, askedAmounts, column, rowAt, found}
 use Rattle.log.specs.declared.Record.{Record}
 use Rattle.log.proofs.Rows.{length-column, column-most}
-use Rattle.places.specs.Places.{rowNumber, takenAt, Reached}
+use Rattle.places.specs.Places.{rowNumber, takenAt, PlaceOf}
 use Rattle.places.specs.declared.Taken.{Taken}
 use Rattle.places.proofs.Places.{first-reached, Taking, taking}
 use Rattle.report.specs.Filled.{recordIn, Roomy, Filled, AllFilled}
@@ -31,7 +31,7 @@ pub record Going (log : List ℕ) (n block place i : ℕ) (times tasks amounts :
   pub counted : n ≡ length (askedTimes log)
   pub few : n ≤ 1_024
   pub past-zero : 0 < block
-  pub reached : Reached log block place
+  pub reached : PlaceOf log block place
   pub here : rowNumber block place ≡ i
   pub filled : Filled log i times tasks amounts
 

@@ -58,7 +58,7 @@ fn fill(
 }
 
 // The table of rows in columns, run and put.
-fn put_rows(
+fn put_run(
     setup: Setup,
     times: &[u32],
     tasks: &[u32],
@@ -100,7 +100,7 @@ fn put_log(log: &[u8], out: &mut [u8; 65536]) -> usize
     let mut amounts = [0u32; 1024];
     let n = fill(log, &mut times, &mut tasks, &mut amounts);
     let setup = log::setup_of(log);
-    put_rows(setup, &times[..n], &tasks[..n], &amounts[..n], out)
+    put_run(setup, &times[..n], &tasks[..n], &amounts[..n], out)
 }
 
 // Puts all that is printed for a log at the start of out, and answers how much it is. Any bytes of any length are

@@ -103,7 +103,13 @@ fn one_of(last: u32, row: u32, done: u32, noted: u32) -> u32
 }
 
 // The completions are written.
-pub fn put(tasks: &[u32], last: [u32; 32], done: [u32; 32], noted: &[u32], result: &mut [u32])
+pub fn put_result(
+    tasks: &[u32],
+    last: [u32; 32],
+    done: [u32; 32],
+    noted: &[u32],
+    result: &mut [u32],
+)
     requires { ⌜ length (now tasks) ≤ 1_024 ⌝ }
     requires { ⌜ length (now tasks) < length (now noted) ⌝ }
     requires { ⌜ length (now tasks) ≤ length (now result) ⌝ }

@@ -5,6 +5,6 @@ use Rattle.rule.specs.declared.Setup.{Setup}
 use Rattle.setups.specs.declared.JudgedSetup.{JudgedSetup}
 
 -- A setup's refusal (0: accepted), and the setup, or `plain` where it is refused.
-pub record Judges (p : Setup) (r : JudgedSetup) : Type 0 where
+pub record JudgesSetup (p : Setup) (r : JudgedSetup) : Type 0 where
   pub number : r .refusal ≡ setupRefusal p
   pub given : r .setup ≡ orPlain p

@@ -7,7 +7,7 @@ ghost use lib.ListN.{length, drop};
 ghost use lib.Dec.{eqb};
 ghost use Rattle.lists.specs.Lists.{within, zeros};
 ghost use Rattle.rule.specs.Setups.{asked, sliceFits, bytesFit, setupRefusal};
-ghost use Rattle.setups.specs.Judging.{Judges};
+ghost use Rattle.setups.specs.Judging.{JudgesSetup};
 
 // Whether n is from low to high.
 fn is_within(low: u32, high: u32, n: u32) -> bool
@@ -94,7 +94,7 @@ fn array_of(bytes: &[u8]) -> [u8; 32]
 }
 
 // The setup of these numbers and 32 priorities.
-fn setup_of(policy: u32, count: u32, slice: u32, priorities: &[u8]) -> Setup
+fn setup_with(policy: u32, count: u32, slice: u32, priorities: &[u8]) -> Setup
     requires { ⌜ length (now priorities) ≡ 32 ⌝ }
     ensures { λ r. ⌜ r ≡ asked policy count slice (now (priorities .entry)) ⌝ }
 {
@@ -113,9 +113,9 @@ pub struct JudgedSetup {
     pub setup: Setup,
 }
 
-// Judges a setup and puts it together. Any numbers and any length of priorities are taken.
+// JudgesSetup a setup and puts it together. Any numbers and any length of priorities are taken.
 pub fn judged_setup(policy: u32, count: u32, slice: u32, priorities: &[u8]) -> JudgedSetup
-    ensures { λ r. ⌜ Judges (asked policy count slice (now (priorities .entry))) r ⌝ }
+    ensures { λ r. ⌜ JudgesSetup (asked policy count slice (now (priorities .entry))) r ⌝ }
 {
     let refusal = setup_refusal(policy, count, slice, priorities);
     if refusal != 0 {
@@ -127,6 +127,6 @@ pub fn judged_setup(policy: u32, count: u32, slice: u32, priorities: &[u8]) -> J
         };
         return JudgedSetup { refusal, setup };
     }
-    let setup = setup_of(policy, count, slice, priorities);
+    let setup = setup_with(policy, count, slice, priorities);
     JudgedSetup { refusal, setup }
 }

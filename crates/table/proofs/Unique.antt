@@ -14,10 +14,10 @@ pub table-determined : (o : Outcome) (before : List ℕ)
 table-determined o before x y a b = λ i. ((a .answer ∙ sym (b .answer)) i, (a .column ∙ sym (b .column)) i)
 
 -- a refusal leaves the column
-pub refused-stays : (n i : ℕ) (before after : List ℕ) (r : TableAnswer) → Answers (refused n i) before r after
+pub column-refused : (n i : ℕ) (before after : List ℕ) (r : TableAnswer) → Answers (refused n i) before r after
     → after ≡ before
 unfolding written
-refused-stays n i before after r a = a .column
+column-refused n i before after r a = a .column
 
 -- entries past the rows stay
 pub past-stays : (ts : List ℕ) (end : ℕ) (before after : List ℕ) (r : TableAnswer)

@@ -53,7 +53,7 @@ fn run_noted(
     }
     let last = ran.last;
     let done = ran.done;
-    rows::put(tasks, last, done, noted, result);
+    rows::put_result(tasks, last, done, noted, result);
     TableAnswer::Finished(ran.end)
 }
 

@@ -32,13 +32,13 @@ refuses n place log = record { found = verdict (judged log); said = verdict (ref
 abbrev pub little : ℕ → List ℕ
 little w = w % 256 ∷ w / 256 % 256 ∷ w / 65_536 % 256 ∷ w / 16_777_216 ∷ []
 
-abbrev pub written : List ℕ → List ℕ
-written [] = []
-written (w ∷ ws) = little w ++ written ws
+abbrev pub asBytes : List ℕ → List ℕ
+asBytes [] = []
+asBytes (w ∷ ws) = little w ++ asBytes ws
 
 -- a block that begins with these words and ends with this check; the bytes between are 0
 abbrev pub made : List ℕ → ℕ → List ℕ
-made ws check = written ws ++ replicate (508 - 4 * length ws) 0 ++ little check
+made ws check = asBytes ws ++ replicate (508 - 4 * length ws) 0 ++ little check
 
 -- a block with another byte at a place, and another check
 abbrev pub marked : List ℕ → ℕ → ℕ → ℕ → List ℕ

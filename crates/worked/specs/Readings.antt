@@ -13,10 +13,10 @@ use Rattle.log.specs.declared.Found.the-variants.{Row, End}
 use Rattle.log.specs.declared.Record.{Record}
 use Rattle.places.specs.Places.{takenAt, setupAt}
 use Rattle.places.specs.declared.Taken.{Taken}
-use Rattle.reader.specs.Reading.{opened, setupBy, firstFound, nexts}
+use Rattle.reader.specs.Reading.{readerOn, setupBy, firstFound, nexts}
 use Rattle.reader.specs.declared.Reader.{Reader}
 use Rattle.worked.specs.Made.{number, bytes, verdict, setup, row, steps, taken, Case, reads}
-use Rattle.worked.specs.Made.{written, little, made, head, caseA, wrong, empty}
+use Rattle.worked.specs.Made.{asBytes, little, made, head, caseA, wrong, empty}
 
 abbrev recorded : ℕ → ℕ → ℕ → Record
 recorded time task amount = record { time = time; task = task; amount = amount }
@@ -28,7 +28,7 @@ ranks = made (0 ∷ 1 ∷ 3 ∷ 0 ∷ 66_311 ∷ []) 66_316
 -- 42 records: all zeros but the last two
 abbrev long : List ℕ
 long =
-    head ++ take 488 (empty 1 41) ++ written (11 ∷ 12 ∷ 13 ∷ 0 ∷ 0 ∷ []) ++ little 79
+    head ++ take 488 (empty 1 41) ++ asBytes (11 ∷ 12 ∷ 13 ∷ 0 ∷ 0 ∷ []) ++ little 79
     ++ made (2 ∷ 1 ∷ 16_909_060 ∷ 15 ∷ 16 ∷ []) 16_909_095
 
 -- ---- words, setups and columns
@@ -46,7 +46,7 @@ lent log = record { ptr = (0, 0); name = 0; now = log }
 
 -- the setup that a reader gives at the opening; of a refused log a plain one
 abbrev opensOn : List ℕ → Setup → Case
-opensOn log p = record { found = setup (setupBy (opened (lent log))); said = setup p }
+opensOn log p = record { found = setup (setupBy (readerOn (lent log))); said = setup p }
 
 abbrev pub readings : List Case
 readings =
@@ -72,7 +72,7 @@ walks r n fs = record { found = steps (nexts r n); said = steps fs }
 
 -- what a reader finds from the opening on
 abbrev opens : List ℕ → ℕ → List Found → Case
-opens log n fs = walks (opened (lent log)) n fs
+opens log n fs = walks (readerOn (lent log)) n fs
 
 -- and from record r of block b on
 abbrev goesOn : List ℕ → ℕ → ℕ → ℕ → List Found → Case
@@ -115,6 +115,6 @@ recordBlocks =
     ∷ asks caseA 4_294_967_295 (refused 34 0)
     ∷ asks head 0 (refused 34 0) ∷ asks head 1 (refused 34 0) ∷ asks long 2 accepted ∷ asks long 3 (refused 34 0)
     ∷ asks (head ++ wrong) 0 (refused 31 1) ∷ asks (head ++ wrong) 1 (refused 31 1) ∷ asks [] 0 (refused 30 0)
-    ∷ gives caseA 1 (written (0 ∷ 0 ∷ 5 ∷ 2 ∷ 1 ∷ 2 ∷ [])) ∷ gives caseA 0 [] ∷ gives caseA 2 []
-    ∷ gives (head ++ wrong) 1 [] ∷ gives long 2 (written (16_909_060 ∷ 15 ∷ 16 ∷ []))
+    ∷ gives caseA 1 (asBytes (0 ∷ 0 ∷ 5 ∷ 2 ∷ 1 ∷ 2 ∷ [])) ∷ gives caseA 0 [] ∷ gives caseA 2 []
+    ∷ gives (head ++ wrong) 1 [] ∷ gives long 2 (asBytes (16_909_060 ∷ 15 ∷ 16 ∷ []))
     ∷ []

@@ -5,7 +5,7 @@ use mathlib.Core.Path.{ap, _∙_}
 use borrow.Author.Needs.{needs}
 use Rattle.rule.specs.Calls.{moved}
 use Rattle.steps.specs.Parts.{parts}
-use Rattle.engine.proofs.Walks.{drained-moved}
+use Rattle.engine.proofs.Walks.{moved-drained}
 use Rattle.engine.proofs.drain_on.Statement.{statement}
 use Rattle.engine.proofs.drain_on.Tie as tie
 
@@ -24,7 +24,7 @@ returns c =
     record {
       kept = w .kept;
       sound = w .sound;
-      shown = w .shown ∙ ap (λ (n : ℕ). moved st (a .c .clock + n)) t ∙ drained-moved st;
+      shown = w .shown ∙ ap (λ (n : ℕ). moved st (a .c .clock + n)) t ∙ moved-drained st;
     }
 
 pub drain-on-spec : {M : Type 1} → statement M

@@ -22,8 +22,8 @@ returns-2 c =
     let s = c .before .before .before in
     let q = s .args .q in
     let l : length q ≡ 32 = search needs in
-    c .put2 .ensures
-    ∙ ap (λ (x : List ℕ). paste x (s .args .n - s .args .head) (drop 0 q) (s .args .head)) (c .before .put .ensures)
+    c .put-stretch2 .ensures
+    ∙ ap (λ (x : List ℕ). paste x (s .args .n - s .args .head) (drop 0 q) (s .args .head)) (c .before .put-stretch .ensures)
     ∙ straight-paste (s .args .head) (s .args .n) q (s .pre .0) (omega (arith, s .pre .1))
 
 pub straight-spec : {M : Type 1} → statement M

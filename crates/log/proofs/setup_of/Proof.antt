@@ -4,7 +4,7 @@ use native.Mathlib.Omega.{arith}
 use mathlib.Core.Path.{subst}
 use borrow.Author.Needs.{needs}
 use Rattle.rule.specs.declared.Setup.{Setup}
-use Rattle.setups.specs.Judging.{Judges}
+use Rattle.setups.specs.Judging.{JudgesSetup}
 use Rattle.setups.proofs.Judging.{judged-accepted}
 use Rattle.judging.proofs.Blocks.{setup-read}
 use Rattle.judging.proofs.Accepted.{accepted-sized}
@@ -22,7 +22,7 @@ returns c =
     let e = setup-read _ (words .before .before .word-at .ensures) (words .before .word-at2 .ensures)
     (words .word-at3 .ensures) in
     let judged = c .before .judged-setup in
-    judged-accepted (subst (λ (p : Setup). Judges p (judged .result)) e (judged .ensures))
+    judged-accepted (subst (λ (p : Setup). JudgesSetup p (judged .result)) e (judged .ensures))
     (accepted-setup _ (start .pre))
 
 pub setup-of-spec : {M : Type 1} → statement M

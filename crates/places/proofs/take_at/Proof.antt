@@ -10,7 +10,7 @@ use denote.Ref.{now}
 use lib.ListN.{length}
 use Rattle.judging.specs.Blocks.{blocks}
 use Rattle.log.specs.Records.{askedTimes}
-use Rattle.places.specs.Places.{rowNumber, Reached}
+use Rattle.places.specs.Places.{rowNumber, PlaceOf}
 use Rattle.places.proofs.Places.{has-row-zero, has-row-past, has-row-counted, has-row-over, block-few}
 use Rattle.places.proofs.Places.{taken-none, RowRead, row-read, taken-last, taken-next}
 use Rattle.places.proofs.take_at.Statement.{statement}
@@ -29,7 +29,7 @@ recordAt c = c .before .before .before .args .«record»
 low : (c : tie.Else2) → 0 < blockAt c
 low c = omega (arith, c .before .if1 .left)
 
-reached : (c : tie.Else2) → Reached (logAt c) (blockAt c) (recordAt c)
+reached : (c : tie.Else2) → PlaceOf (logAt c) (blockAt c) (recordAt c)
 reached c = c .before .before .before .pre (low c)
 
 inside : (c : tie.Else2) → blockAt c < blocks (logAt c)

@@ -31,7 +31,7 @@ use denote.Struct.Rest.{all-own, own-open}
 use denote.Triple.Statement.{Triple}
 use denote.Triple.Call.{calls-at}
 use denote.Triple.Table.{entered, cited}
-use Rattle.reader.specs.Reading.{takenBy, opened, Standing, OpenedOn, FirstOf}
+use Rattle.reader.specs.Reading.{takenBy, readerOn, Standing, OpenedOn, FirstOf}
 use Rattle.reader.specs.declared.First.{First}
 use Rattle.reader.specs.declared.Opened.{Opened}
 use Rattle.reader.specs.declared.Reader.{Reader}
@@ -83,7 +83,7 @@ module _ {M : Type 1} (𝓤 : URA M) (H : Heap 𝓤) (A : Atoms 𝓤) (W : Given
   abbrev αᵉ : NamedLft
   αᵉ = record { mir = erased; lft = κ }
 
-  stands-of : {r : Reader} → r ≡ opened s → Standing r
+  stands-of : {r : Reader} → r ≡ readerOn s → Standing r
   stands-of e = subst Standing (sym e) (opened-stands s)
 
   -- the calls, and what is made of their answers

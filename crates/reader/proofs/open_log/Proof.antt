@@ -30,7 +30,7 @@ use denote.Struct.Laws as LL
 use denote.Struct.Rest.{own-shut}
 use denote.Triple.Statement.{Triple}
 use denote.Triple.Call.{calls-at}
-use Rattle.places.specs.Places.{Started}
+use Rattle.places.specs.Places.{Begins}
 use Rattle.reader.specs.declared.Opened.{Opened}
 use Rattle.places.specs.declared.Start.{Start}
 use Rattle.places.proofs.Start as J
@@ -66,7 +66,7 @@ abbrev startRow : Lfts 1 → RattleType
 startRow κs = J.the-row
 
 abbrev Starts : Lfts 1 → RefT (List ℕ) → Start → Type 0
-Starts κs s j = Started (now s) j
+Starts κs s j = Begins (now s) j
 
 module _ {M : Type 1} (𝓤 : URA M) (H : Heap 𝓤) (A : Atoms 𝓤) (W : Given 𝓤 H A) (κ : Lft) (q : Share)
     (s : RefT (List ℕ)) (p : Is (ShrSlice (named 0) κ u8) s (slice-of s ∷ [])) where

@@ -39,7 +39,7 @@ use denote.Triple.Call.{calls-at}
 use denote.Triple.Clauses.{ensured, lasts}
 use denote.Triple.Spec.{tripleOf}
 use denote.Triple.Walked.{says}
-use Rattle.reader.specs.Reading.{Stepped, Standing}
+use Rattle.reader.specs.Reading.{NextIs, Standing}
 use Rattle.reader.specs.declared.Reader.{Reader}
 use Rattle.log.specs.declared.Found.{Found}
 use Rattle.places.specs.declared.Taken.{Taken}
@@ -179,8 +179,8 @@ module _ {M : Type 1} (𝓤 : URA M) (H : Heap 𝓤) (A : Atoms 𝓤) (W : Given
         ftrue) ⊛ ‵ (S.the-row .own t (u ∷ []))) ⊛ raw (ensured 𝓤 H A next.ended (next.clauses 𝓤 H A at-mem run)
         (a ∷ κ, (κ, tt)) (x l₄ δ, tt) tt t)))) (id⊢ 𝓤 _) $ await ! tt $ pick ! (λ t.
         split ! $ move ! (1 ∷ []) $ use1 W (some (λ (ws : Reader × Unit {0}). ‵ (lasts next.ended (a ∷ κ, (κ, tt))
-        (x l₄ δ, tt) ws) ⊛ raw (fact 𝓤 (Stepped d t (ws .0))))) (id⊢ 𝓤 _) $ pick ! (λ ws.
-        split ! $ move ! (1 ∷ []) $ heard ! (Stepped d t (ws .0)) (λ e. fsplit ! $
+        (x l₄ δ, tt) ws) ⊛ raw (fact 𝓤 (NextIs d t (ws .0))))) (id⊢ 𝓤 _) $ pick ! (λ ws.
+        split ! $ move ! (1 ∷ []) $ heard ! (NextIs d t (ws .0)) (λ e. fsplit ! $
         move ! (2 ∷ []) $ split ! $ move ! (1 ∷ []) $
         peeks ! S.the-row (Is S.the-row) (shows 𝓤 H A S.the-row) t (u ∷ []) (λ isT. drop ! $
         -- [the tokens; the reader's last value; true; the lender's part; what gives a's whole token back; _8; …; _7;

@@ -17,8 +17,8 @@ array-share-prefix-times c =
     let filled = c .before in
     times-room _ (start filled .pre) (filled .fill .ensures .1) (filled .fill .ensures .0)
 
-slice-aggregate-put-rows : tie.Need-slice-aggregate-put-rows
-slice-aggregate-put-rows c =
+slice-aggregate-put-run : tie.Need-slice-aggregate-put-run
+slice-aggregate-put-run c =
     let filled = c .before .before in
     sym (length-take-le _ _ (times-room _ (start filled .pre) (filled .fill .ensures .1) (filled .fill .ensures .0)))
 
@@ -27,8 +27,8 @@ array-share-prefix-tasks c =
     let filled = c .before .before in
     tasks-room _ (start filled .pre) (filled .fill .ensures .1) (filled .fill .ensures .0)
 
-slice-aggregate-put-rows-2 : tie.Need-slice-aggregate-put-rows-2
-slice-aggregate-put-rows-2 c =
+slice-aggregate-put-run-2 : tie.Need-slice-aggregate-put-run-2
+slice-aggregate-put-run-2 c =
     let filled = c .before .before .before in
     sym (length-take-le _ _ (tasks-room _ (start filled .pre) (filled .fill .ensures .1) (filled .fill .ensures .0)))
 
@@ -37,13 +37,13 @@ array-share-prefix-amounts c =
     let filled = c .before .before .before in
     amounts-room _ (start filled .pre) (filled .fill .ensures .1) (filled .fill .ensures .0)
 
-slice-aggregate-put-rows-3 : tie.Need-slice-aggregate-put-rows-3
-slice-aggregate-put-rows-3 c =
+slice-aggregate-put-run-3 : tie.Need-slice-aggregate-put-run-3
+slice-aggregate-put-run-3 c =
     let filled = c .before .before .before .before in
     sym (length-take-le _ _ (amounts-room _ (start filled .pre) (filled .fill .ensures .1) (filled .fill .ensures .0)))
 
-put-rows-requires : tie.Need-put-rows-requires
-put-rows-requires c κs =
+put-run-requires : tie.Need-put-run-requires
+put-run-requires c κs =
     let setup = c .before .before .before .before in
     let filled = setup .before in
     log-tabled (now (start filled .args .log)) (start filled .pre) (filled .fill .ensures .1) (filled .fill .ensures .0)
@@ -56,7 +56,7 @@ returns c =
     wrote-same-upto
     (log-text (now (start filled .args .log)) (start filled .pre) (filled .fill .ensures .1) (filled .fill .ensures .0)
     (setup .setup-of .ensures))
-    (c .put-rows .ensures)
+    (c .put-run .ensures)
 
 pub put-log-spec : {M : Type 1} → statement M
 put-log-spec =
@@ -64,10 +64,10 @@ put-log-spec =
     (tie.spec
     (λ c κs. search needs) (λ c κs. search needs)
     array-share-prefix-times
-    slice-aggregate-put-rows
+    slice-aggregate-put-run
     array-share-prefix-tasks
-    slice-aggregate-put-rows-2
+    slice-aggregate-put-run-2
     array-share-prefix-amounts
-    slice-aggregate-put-rows-3
-    put-rows-requires
+    slice-aggregate-put-run-3
+    put-run-requires
     returns)

@@ -26,16 +26,16 @@ returns c =
       given = sym (cond-false _ plain (ne-eqb _ 0 (λ y. c .if1 .taken (e ∙ y))));
     }
 
-setup-of-requires : tie.Need-setup-of-requires
-setup-of-requires c κs = setup-taken _ (accepted c) .bytes
+setup-with-requires : tie.Need-setup-with-requires
+setup-with-requires c κs = setup-taken _ (accepted c) .bytes
 
 returns-2 : tie.Need-returns-2
 returns-2 c =
     record {
       number = c .before .before .setup-refusal .ensures;
-      given = c .setup-of .ensures ∙ sym (cond-true _ plain (eq-eqb _ 0 (accepted (c .before))));
+      given = c .setup-with .ensures ∙ sym (cond-true _ plain (eq-eqb _ 0 (accepted (c .before))));
     }
 
 pub judged-setup-spec : {M : Type 1} → statement M
 judged-setup-spec =
-    tie.close (tie.spec (λ c κs. search needs) returns setup-of-requires returns-2)
+    tie.close (tie.spec (λ c κs. search needs) returns setup-with-requires returns-2)

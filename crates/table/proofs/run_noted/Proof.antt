@@ -26,8 +26,8 @@ returns c =
     let rows = c .before .before .before .before in
     table-runs _ _ _ _ _ (start rows .pre .0) (answer-refused _ _ _ _ _ _ (rows .run-rows .ensures) _ (c .if1 .taken))
 
-put-requires : tie.Need-put-requires
-put-requires c κs =
+put-result-requires : tie.Need-put-result-requires
+put-result-requires c κs =
     let rows = c .before .before .before .before .before .before .before .before in
     let q = start rows .pre .0 in
     let runs = rows .run-rows .ensures in (
@@ -42,17 +42,17 @@ same-length-2 : tie.Need-same-length-2
 same-length-2 c = ran c .run-rows .ensures .room
 
 same-length-3 : tie.Need-same-length-3
-same-length-3 c = c .before .before .put .ensures .room
+same-length-3 c = c .before .before .put-result .ensures .room
 
 returns-2 : tie.Need-returns-2
 returns-2 c =
     let q = start (ran c) .pre .0 in
     let past = c .before .before .before .before .before .before .before in
     table-runs _ _ _ _ _ q
-    (answer-finished _ _ _ _ _ _ (ran c .run-rows .ensures) _ (past .if1 .left) _ (c .before .before .put .ensures)
+    (answer-finished _ _ _ _ _ _ (ran c .run-rows .ensures) _ (past .if1 .left) _ (c .before .before .put-result .ensures)
     (omega (arith, q .tasks-equal, q .fits)))
 
 pub run-noted-spec : {M : Type 1} → statement M
 run-noted-spec =
     tie.close
-    (tie.spec run-rows-requires same-length returns put-requires same-length-2 same-length-3 returns-2)
+    (tie.spec run-rows-requires same-length returns put-result-requires same-length-2 same-length-3 returns-2)

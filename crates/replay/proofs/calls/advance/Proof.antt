@@ -7,7 +7,7 @@ use Rattle.rule.specs.View.{view}
 use Rattle.laws.proofs.Made.{made-sound}
 use Rattle.requests.specs.Early.{timeRefusal}
 use Rattle.requests.proofs.Early.{time-between, time-passed}
-use Rattle.replay.proofs.Calling.{shows-then, promised-refused, promised-accepted, advance-refusal}
+use Rattle.replay.proofs.Calling.{shows-then, refused-promised, promised-accepted, advance-refusal}
 use Rattle.replay.proofs.Calling.{advance-effect}
 use Rattle.replay.proofs.calls.advance.Statement.{statement}
 use Rattle.replay.proofs.calls.advance.Tie as tie
@@ -28,7 +28,7 @@ answer-of-requires c κs =
 returns : tie.Need-returns
 returns c =
     let s = c .before .before .before in
-    promised-refused _ (asking s) _ _ (c .answer-of .ensures)
+    refused-promised _ (asking s) _ _ (c .answer-of .ensures)
     (c .before .before .time-refusal .ensures ∙ advance-refusal (view (s .args .run)) _) (c .before .if1 .taken)
     record { tidy = s .pre .tidy; shown = refl }
 

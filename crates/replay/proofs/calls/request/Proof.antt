@@ -9,7 +9,7 @@ use Rattle.rule.specs.View.{view}
 use Rattle.laws.proofs.Made.{made-sound}
 use Rattle.requests.specs.Early.{earlyRefusal}
 use Rattle.requests.proofs.Early.{Passed, early-passed, early-between}
-use Rattle.replay.proofs.Calling.{promised-refused, promised-accepted}
+use Rattle.replay.proofs.Calling.{refused-promised, promised-accepted}
 use Rattle.replay.proofs.Opening.{early-number, open-number, taken-number, taken-room, taken-shows}
 use Rattle.replay.proofs.calls.request.Statement.{statement}
 use Rattle.replay.proofs.calls.request.Tie as tie
@@ -44,7 +44,7 @@ returns : tie.Need-returns
 returns c =
     let s = c .before .before .before in
     let e = c .before .before .early-refusal .ensures in
-    promised-refused _ (asking s) _ _ (c .answer-of .ensures)
+    refused-promised _ (asking s) _ _ (c .answer-of .ensures)
     (e ∙ early-number (view (s .args .run)) _ _ _ (λ z. c .before .if1 .taken (e ∙ z)))
     (c .before .if1 .taken)
     record { tidy = s .pre .tidy; shown = refl }
@@ -61,7 +61,7 @@ returns-2 : tie.Need-returns-2
 returns-2 c =
     let m = c .before .before in
     let s = start (m .before) in
-    promised-refused _ (asking s) _ 14 refl
+    refused-promised _ (asking s) _ 14 refl
     (open-number (view (s .args .run)) _ _ _ (early (m .before)) _ (m .moved-to .ensures) (c .if2 .taken))
     (λ z. omega arith)
     record { tidy = s .pre .tidy; shown = refl }

@@ -1,10 +1,10 @@
--- `report::put_rows` meets its contract: what `table` answers is put as text. Assumes nothing.
+-- `report::put_run` meets its contract: what `table` answers is put as text. Assumes nothing.
 use mathlib.Core.Path.{refl}
 use borrow.Author.Needs.{needs}
 use Rattle.cells.proofs.Writing.{wrote-same-upto}
 use Rattle.report.proofs.Reporting.{text-refused, after-room, after-part, text-finished}
-use Rattle.report.proofs.put_rows.Statement.{statement}
-use Rattle.report.proofs.put_rows.Tie as tie
+use Rattle.report.proofs.put_run.Statement.{statement}
+use Rattle.report.proofs.put_run.Tie as tie
 
 -- the call's start, from the table that was run
 abbrev start : tie.After-table → tie.Start
@@ -40,8 +40,8 @@ returns-2 c =
     (text-refused (s .args .setup) _ _ _ (s .pre) _ _ refl _ (ran .table .ensures) _ _ (at .answer2 .given .1))
     (c .put-refused .ensures)
 
-pub put-rows-spec : {M : Type 1} → statement M
-put-rows-spec =
+pub put-run-spec : {M : Type 1} → statement M
+put-run-spec =
     tie.close
     (tie.spec
     (λ c. search needs) (λ c. search needs) (λ c κs. search needs) (λ c. search needs)

@@ -8,8 +8,8 @@ use lib.Seq.{paste, paste-zero}
 use borrow.Author.Needs.{needs}
 use Rattle.lists.specs.Lists.{at}
 use Rattle.lists.proofs.Places.{paste-next}
-use Rattle.line.proofs.put.Statement.{statement}
-use Rattle.line.proofs.put.Tie as tie
+use Rattle.line.proofs.put_stretch.Statement.{statement}
+use Rattle.line.proofs.put_stretch.Tie as tie
 
 abbrev Inv-loop : tie.InvT-loop
 Inv-loop at from count q next₀ k₀ next k = (k ≤ count) × (next ≡ paste next₀ at (drop from q) k)
@@ -40,8 +40,8 @@ returns c =
     c .before .loop .inv .1
     ∙ ap (λ (j : ℕ). paste (s .args .into) (s .args .at) (drop (s .args .from) (s .args .t3)) j) e
 
-pub put-spec : {M : Type 1} → statement M
-put-spec =
+pub put-stretch-spec : {M : Type 1} → statement M
+put-stretch-spec =
     tie.close
     (tie.spec
     Inv-loop

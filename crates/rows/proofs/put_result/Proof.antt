@@ -1,12 +1,12 @@
--- `rows::put` meets its contract. The invariant: the first i entries are written, and no others. Assumes nothing.
+-- `rows::put_result` meets its contract. The invariant: the first i entries are written, and no others. Assumes nothing.
 use borrow.Author.Needs.{needs}
 use Prim.Native.Nat.{_-_, _<_}
 use native.Mathlib.Omega.{arith}
 use lib.ListN.{length}
 use Rattle.lists.specs.Lists.{at}
 use Rattle.rows.proofs.Putting.{Putting, putting-start, putting-step, putting-end}
-use Rattle.rows.proofs.put.Statement.{statement}
-use Rattle.rows.proofs.put.Tie as tie
+use Rattle.rows.proofs.put_result.Statement.{statement}
+use Rattle.rows.proofs.put_result.Tie as tie
 
 abbrev Inv-loop : tie.InvT-loop
 Inv-loop tasks noted result₀ last done i₀ result i = Putting tasks last done noted result₀ result i
@@ -51,8 +51,8 @@ same-length c = c .before .loop .inv .room
 returns : tie.Need-returns Inv-loop μ-loop
 returns c = putting-end _ _ _ _ _ _ _ (c .before .loop .inv) (c .loop-test .left)
 
-pub put-spec : {M : Type 1} → statement M
-put-spec =
+pub put-result-spec : {M : Type 1} → statement M
+put-result-spec =
     tie.close
     (tie.spec
     Inv-loop
