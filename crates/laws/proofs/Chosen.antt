@@ -1,16 +1,16 @@
 -- Who is served. In order: the chosen task stands in the queue; under priority it is the foremost, and there is only
--- one such; under round robin it is the head. Assumes nothing.
+-- one such. Assumes nothing.
 use Prim.Native.Nat.{ℕ, _+_, _≤_, _<_}
 use native.Mathlib.Nat.{le-refl, le-trans, not-suc-le-zero, le-antisymm}
 use native.Mathlib.Omega.{arith}
 use mathlib.Core.Path.{_≡_, sym}
-use mathlib.Core.Bool.{true, false}
+use mathlib.Core.Bool.{true}
 use mathlib.Core.List.{List, [], _∷_}
 use lib.ListN.{length}
 use lib.Dec.{ltb}
 use borrow.Author.Tests.{ltb-true, ltb-false}
 use Rattle.lists.specs.Lists.{at, same, times}
-use Rattle.lists.proofs.Testing.{tested, equal-or, cond-false, cond-both}
+use Rattle.lists.proofs.Testing.{tested, equal-or, cond-both}
 use Rattle.lists.proofs.Counting.{same-refl, same-other, times-head}
 use Rattle.rule.specs.Setups.{isPriority}
 use Rattle.rule.specs.Tick.{before, best, chosen}
@@ -119,9 +119,3 @@ pub foremost-unique : (prio q : List ℕ) (a b : ℕ) → Foremost prio q a → 
 foremost-unique prio q a b f g =
     let level : at prio a ≡ at prio b = le-antisymm (g .greatest a (f .stands)) (f .greatest b (g .stands)) in
     le-antisymm (f .smaller b (g .stands) (sym level)) (g .smaller a (f .stands) level)
-
--- ---- under round robin
-
-pub chosen-head : (p : Setup) (h : ℕ) (t : List ℕ) → isPriority p ≡ false → chosen p (h ∷ t) ≡ h
-unfolding chosen
-chosen-head p h t e = cond-false (best (p .priority) h t) h e

@@ -11,7 +11,7 @@ use lib.ListN.{length}
 use lib.Seq.{set-set}
 use lib.Dec.{eqb}
 use borrow.Author.Tests.{eqb-true, eqb-false, eq-eqb, ne-eqb}
-use Rattle.lists.specs.Lists.{at, times}
+use Rattle.lists.specs.Lists.{at}
 use Rattle.lists.proofs.Testing.{tested, cond-false}
 use Rattle.lists.proofs.Totals.{at-inside, at-set-same}
 use Rattle.rule.specs.Setups.{isPriority}
@@ -19,8 +19,7 @@ use Rattle.rule.specs.State.{State}
 use Rattle.rule.specs.Tick.{chosen, overdue, turn, usedMore, give, rest, serve, tickOn, tick, ticks}
 use Rattle.rule.specs.declared.Setup.{Setup}
 use Rattle.laws.specs.Sound.{Sound}
-use Rattle.laws.proofs.Chosen.{chosen-member}
-use Rattle.laws.proofs.Served.{times-turn, length-turn, used-turn}
+use Rattle.laws.proofs.Served.{length-turn}
 
 -- n more ticks fit into the slice
 abbrev pub Fits : State → ℕ → Type 0
@@ -147,22 +146,6 @@ jump s (suc n) some ho hg p h w =
     ∙ ap (give (turn s) (next s)) (one-add n)
 
 -- ---- of a sound state
-
-module _ (s : State) (S : Sound s) where
-  -- after the turn at least one tick of the slice is left
-  pub turn-fits : Fits (turn s) 1
-  unfolding turn
-  turn-fits e = omega (arith, used-turn s e (S .sliced e))
-
-  -- a task that stands in the queue is owed ticks
-  pub queued-owed : (k : ℕ) → 0 < times k (s .queue) → 0 < at (s .owed) k
-  queued-owed k h = omega (arith, S .queued k)
-
-  pub next-owed : 0 < length (s .queue) → 0 < at (s .owed) (next s)
-  unfolding turn
-  next-owed h =
-      let m : 0 < times (next s) (turn s .queue) = chosen-member (s .setup) (turn s .queue) (rw (length-turn s) h) in
-      queued-owed (next s) (omega (arith, times-turn s (next s)))
 
 -- t is s after the turn, and gives its chosen task i some ticks in a row: that is s as many ticks later
 pub ticks-jump : (s t : State) → Sound s → 0 < length (s .queue) → t ≡ turn s → (i n : ℕ)

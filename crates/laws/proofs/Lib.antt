@@ -13,7 +13,6 @@ pub mod Closing
 pub mod Completion
 pub mod Soonest
 pub mod Tables
-pub mod Sequences
 pub mod Unique
 pub mod Jump
 pub mod NextDone

@@ -10,10 +10,10 @@ use lib.ListN.{set, length, length-set}
 use lib.Dec.{eqb}
 use borrow.Author.Tests.{eqb-true}
 use Rattle.lists.specs.Lists.{at, total, same, times}
-use Rattle.lists.proofs.Testing.{tested, equal-or, cond-both}
-use Rattle.lists.proofs.Counting.{same-equal, same-other, times-nil, times-cons, times-head, times-append, times-none}
+use Rattle.lists.proofs.Testing.{tested, equal-or}
+use Rattle.lists.proofs.Counting.{same-equal, same-other, times-nil, times-cons, times-head, times-append}
 use Rattle.lists.proofs.Counting.{length-once}
-use Rattle.lists.proofs.Totals.{at-replicate, at-set-same, at-set-other, at-le-total, total-zero}
+use Rattle.lists.proofs.Totals.{at-replicate, at-set-same, at-set-other, total-zero}
 use Rattle.rule.specs.Setups.{isPriority, setupRefusal}
 use Rattle.rule.specs.State.{State, fresh}
 use Rattle.rule.specs.Calls.{moved, opened, mostAmount, Call, request, advance, drain, refusal, effect, call, calls}
@@ -21,7 +21,7 @@ use Rattle.rule.specs.Calls.{Made}
 use Rattle.rule.specs.declared.Setup.{Setup}
 use Rattle.laws.specs.Sound.{Sliced, Sound}
 use Rattle.laws.specs.Accepted.{Taken, Requested}
-use Rattle.laws.proofs.Ticks.{moved-setup, drained-setup}
+use Rattle.laws.proofs.Ticks.{moved-setup}
 use Rattle.laws.proofs.Refusals.{setup-taken, request-accepted, isPriority-true}
 use Rattle.laws.proofs.Sound.{moved-sound, drained-sound}
 
@@ -30,9 +30,6 @@ use Rattle.laws.proofs.Sound.{moved-sound, drained-sound}
 -- nothing is open exactly where nothing is owed
 pub none-owed : (s : State) → Sound s → s .queue ≡ [] → total (s .owed) ≡ 0
 none-owed s h e = total-zero (s .owed) (λ k. omega (arith, h .queued k, ap (times k) e, times-nil k))
-
-pub none-open : (s : State) → Sound s → total (s .owed) ≡ 0 → s .queue ≡ []
-none-open s h e = times-none (s .queue) (λ k. omega (arith, h .queued k, at-le-total (s .owed) k))
 
 -- somebody is owed a tick where the total is not 0
 pub some-owed : (s : State) → Sound s → 0 < total (s .owed) → (k : ℕ) × (0 < at (s .owed) k)
@@ -98,22 +95,6 @@ pub calls-sound : (s : State) (cs : List Call) → Sound s → Sound (calls s cs
 unfolding calls
 calls-sound s [] h = h
 calls-sound s (c ∷ cs) h = calls-sound (call s c) cs (call-sound s c h)
-
-effect-setup : (s : State) (c : Call) → effect s c .setup ≡ s .setup
-unfolding effect opened
-effect-setup s (request t k a) = moved-setup s t
-effect-setup s (advance t) = moved-setup s t
-effect-setup s drain = drained-setup s
-
-pub call-setup : (s : State) (c : Call) → call s c .setup ≡ s .setup
-unfolding call
-call-setup s c =
-    cond-both (λ (r : State). r .setup ≡ s .setup) (eqb (refusal s c) 0) (effect s c) s (effect-setup s c) refl
-
-pub calls-setup : (s : State) (cs : List Call) → calls s cs .setup ≡ s .setup
-unfolding calls
-calls-setup s [] = refl
-calls-setup s (c ∷ cs) = calls-setup (call s c) cs ∙ call-setup s c
 
 -- ---- setups
 

@@ -13,10 +13,10 @@ use Rattle.lists.proofs.Testing.{tested, equal-or, cond-true, cond-false, cond-
 use Rattle.lists.proofs.Counting.{same-refl, same-other, times-without-same, times-without-other}
 use Rattle.lists.proofs.Totals.{at-inside, at-set-same, at-set-other, total-set}
 use Rattle.rule.specs.State.{State}
-use Rattle.rule.specs.Tick.{turn, last, rest, tick, ticks}
+use Rattle.rule.specs.Tick.{last, rest, tick, ticks}
 use Rattle.rule.specs.Calls.{moved, drained}
 use Rattle.laws.specs.Sound.{Sound}
-use Rattle.laws.proofs.Served.{Served, ticked, times-turn, used-turn}
+use Rattle.laws.proofs.Served.{Served, ticked}
 
 -- ---- a service
 
@@ -130,24 +130,6 @@ rest-sound s n h =
       limit = h .limit;
       spent = omega (arith, h .spent);
       past = λ k. omega (arith, h .past k);
-    }
-
-pub turn-sound : (s : State) → Sound s → Sound (turn s)
-unfolding turn
-turn-sound s h =
-    record {
-      few = h .few;
-      owed32 = h .owed32;
-      given32 = h .given32;
-      done32 = h .done32;
-      sliced = λ e.
-          let u = h .sliced e in
-          record { some = u .some; small = u .small; inside = omega (arith, used-turn s e u) };
-      queued = λ k. times-turn s k ∙ h .queued k;
-      counted = h .counted;
-      limit = h .limit;
-      spent = h .spent;
-      past = h .past;
     }
 
 pub tick-sound : (s : State) → Sound s → Sound (tick s)

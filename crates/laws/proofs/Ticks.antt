@@ -36,14 +36,6 @@ pub ticks-zero : (s : State) → ticks 0 s ≡ s
 unfolding ticks
 ticks-zero s = refl
 
-pub ticks-one : (s : State) → ticks 1 s ≡ tick s
-unfolding ticks
-ticks-one s = refl
-
-pub ticks-suc : (n : ℕ) (s : State) → ticks (suc n) s ≡ ticks n (tick s)
-unfolding ticks
-ticks-suc n s = refl
-
 pub ticks-clock : (n : ℕ) (s : State) → ticks n s .clock ≡ s .clock + n
 unfolding ticks
 ticks-clock zero s = omega arith
@@ -58,9 +50,6 @@ pub ticks-add : (m n : ℕ) (s : State) → ticks (m + n) s ≡ ticks n (ticks m
 unfolding ticks
 ticks-add zero n s = ap (λ (j : ℕ). ticks j s) (zero-add n)
 ticks-add (suc m) n s = ap (λ (j : ℕ). ticks j s) (suc-add m n) ∙ ticks-add m n (tick s)
-
-pub ticks-last : (n : ℕ) (s : State) → ticks (suc n) s ≡ tick (ticks n s)
-ticks-last n s = ap (λ (j : ℕ). ticks j s) (omega arith) ∙ ticks-add n 1 s ∙ ticks-one (ticks n s)
 
 -- ---- moves and drains
 
@@ -88,7 +77,3 @@ moved-moved s u t h g =
 pub drained-clock : (s : State) → drained s .clock ≡ s .clock + total (s .owed)
 unfolding drained
 drained-clock s = ticks-clock (total (s .owed)) s
-
-pub drained-setup : (s : State) → drained s .setup ≡ s .setup
-unfolding drained
-drained-setup s = ticks-setup (total (s .owed)) s

@@ -1,5 +1,5 @@
 -- Laws of the rows of a log that reads. In order: the records of one block; the rows' number; where row i stands; the
--- rows as the code reads them, and as the table takes them; a block's records. Assumes nothing.
+-- rows as the code reads them, and as the table takes them. Assumes nothing.
 use Prim.Native.Nat.{ℕ, zero, suc, _+_, _*_, _-_, _/_, _%_, _≤_, _<_}
 use native.Mathlib.Omega.{arith}
 use mathlib.Core.Path.{_≡_, refl, sym, ap, _∙_}
@@ -202,11 +202,3 @@ module _ (log : List ℕ) (r : Reads log) where
         eq-eqb (length (column 2 log)) (length (column 0 log)) (same-length log r 2),
         le-ltb 1_024 (length (column 0 log)) few,
       )
-
--- ---- record j of block b is row 41 * (b - 1) + j
-
-pub row-of-block : (w : ℕ) → w < 3 → (log : List ℕ) → Reads log → (b j : ℕ) → 0 < b → j < 41
-    → 41 * (b - 1) + j < length (column w log)
-    → at (column w log) (41 * (b - 1) + j) ≡ word log (512 * b + 8 + 12 * j + 4 * w)
-row-of-block w small log r b j low few h =
-    at-column w small log r (41 * (b - 1) + j) h ∙ ap (word log) (omega arith)
