@@ -19,21 +19,8 @@ use Rattle.engine.specs.Inner.{straightTo}
 use Rattle.engine.specs.Promises.{Apart}
 use Rattle.line.proofs.Queues.{queueAt-priority, queueAt-zero, straight-take}
 use Rattle.line.proofs.Heads.{heads-inside, heads-serves}
-use Rattle.engine.proofs.Joining.{straight-whole, straight-clear}
+use Rattle.engine.proofs.Joining.{with-queue, straight-whole, straight-clear}
 use Rattle.steps.proofs.Legs.{places-tasks}
-
-with-queue : Setup → Cursor → List ℕ → List ℕ → List ℕ → List ℕ → State
-with-queue s c x o g d =
-    record {
-      setup = s;
-      clock = c .clock;
-      idle = c .idle;
-      used = c .used;
-      queue = x;
-      owed = o;
-      given = g;
-      done = d;
-    }
 
 module _ (r : Run) (T : Tidy r) where
   pub run-tasks : Sound (view r) → Tasks (r .queue)
@@ -45,7 +32,6 @@ module _ (r : Run) (T : Tidy r) where
 
   pub apart : (head : ℕ) → Heads (r .setup) 0 (r .queued) (r .queue) head
       → Apart r (record { clock = r .clock; idle = r .idle; used = r .used; queued = r .queued; head = head })
-  unfolding with-queue
   apart head H =
       record {
         kept =
@@ -94,7 +80,7 @@ pub together : (s : Setup) (c : Cursor) (q q′ o g d : List ℕ) (r : Cursor) �
       done = d;
     })
     (parts s c q o g d)
-unfolding with-queue straightTo
+unfolding straightTo
 together s c q q′ o g d r K er e =
     rw er
     record {

@@ -1,4 +1,5 @@
--- A task that joins the queue. In order: the queue from place 0 on; a task that joins it. Assumes nothing.
+-- A task that joins the queue. In order: the parts with another queue; the queue from place 0 on; a task that joins
+-- it. Assumes nothing.
 use Prim.Native.Nat.{ℕ, _+_, _-_, _≤_, _<_, zero-le}
 use native.Mathlib.Omega.{arith}
 use mathlib.Core.Path.{_≡_, sym, ap, _∙_, subst}
@@ -10,6 +11,7 @@ use Rattle.lists.specs.Lists.{at}
 use Rattle.lists.proofs.Testing.{tested, cond-same}
 use Rattle.lists.proofs.Places.{below-append, below-drop, below-set}
 use Rattle.rule.specs.Setups.{isPriority}
+use Rattle.rule.specs.State.{State}
 use Rattle.rule.specs.Tick.{chosen}
 use Rattle.rule.specs.Calls.{opened}
 use Rattle.rule.specs.declared.Setup.{Setup}
@@ -21,6 +23,21 @@ use Rattle.line.proofs.Rings.{clear-set}
 use Rattle.line.proofs.Heads.{chosen-robin, heads-inside, heads-serves, serves-heads, heads-set}
 use Rattle.line.proofs.Queues.{straight-drop, straight-length, straight-priority}
 use Rattle.line.proofs.Queues.{queueAt-below, queueAt-joined}
+
+-- ---- the parts with another queue
+
+abbrev pub with-queue : Setup → Cursor → List ℕ → List ℕ → List ℕ → List ℕ → State
+with-queue s c x o g d =
+    record {
+      setup = s;
+      clock = c .clock;
+      idle = c .idle;
+      used = c .used;
+      queue = x;
+      owed = o;
+      given = g;
+      done = d;
+    }
 
 -- ---- the queue from place 0 on
 
@@ -107,18 +124,7 @@ module _ (s : Setup) (c : Cursor) (q : List ℕ) (K : Kept s c q) (q′ : List �
                 };
             shown = λ g d.
                 unfold opened in
-                ap
-                (λ (x : List ℕ).
-                record {
-                  setup = s;
-                  clock = c .clock;
-                  idle = c .idle;
-                  used = c .used;
-                  queue = x;
-                  owed = set o task amount;
-                  given = g;
-                  done = d;
-                })
+                ap (λ (x : List ℕ). with-queue s c x (set o task amount) g d)
                 (queueAt-joined s (c .head) (c .queued) q q′ room e task head (omega (arith, K .whole))
                 (λ f. H .robin f ∙ rw f (cond-same (ltb 0 (c .queued + 1)) 0)));
           }

@@ -13,7 +13,7 @@ use base.Logic.{SProp, ent, snd∗, exE}
 use base.Fml.{Lft, Share, Fml, ftrue, flft}
 use prog.Model.{Model}
 use prog.Routine.{Routine, Env}
-use prog.Wp.{Heap, Calls, Loops, WpFn, Closed, Tables}
+use prog.Wp.{Heap, Calls, Loops, WpFn, Closed}
 use ghost.Atoms.{Atoms, sem}
 use contract.Monad.{fact}
 use contract.Running.{Running, GhostRules, givenOf, tables}
@@ -22,7 +22,7 @@ use types.Kit.{done}
 use types.Part.{whole, sub, look-in}
 use types.Run.{look, init, stop, fld, from, load, of-opd, and-then, no-more, assigns, land, returns, enter, alloc1}
 use types.Run.{alloc0, params1, pass1, pass0, free0}
-use sound.WpLaws.{FmC, fmOf, WpFn-mono}
+use sound.WpLaws.{FmC}
 use denote.RattleType.{owns}
 use denote.Signature.{Signature, plain, namedLft}
 use denote.Slice.{sliceTy}
@@ -33,10 +33,10 @@ use denote.Triple.Call.{calls-at}
 use denote.Triple.Clauses.{Clauses, Ended, closing, ensured, lasts}
 use denote.Triple.Entry.{onEntry}
 use denote.Triple.Spec.{Meets, tripleOf}
-use denote.Triple.Walked.{says, needs, Stays, stay-none, walkOf, goes-none, Walks, ends-at, walked, walk-meets}
+use denote.Triple.Walked.{says, needs, Stays, stay-none, walkOf, goes-none, Walks, ends-at, walked}
 use denote.Exit.{yes}
 use denote.Ref.{now}
-use Rattle.walk_laws.proofs.Calling.{over}
+use Rattle.walk_laws.proofs.Calling.{by-walk}
 use Rattle.walk_laws.proofs.Data.{Data, typed-at}
 use Rattle.reader.specs.Reading.{Standing}
 use Rattle.reader.specs.declared.Reader.{Reader}
@@ -168,19 +168,15 @@ module _ (R : Data) (Said : List ℕ → ℕ → ℕ → R .type .Denot → Type
         (LL.lawful (T.the-type (namedLft 1 0 tt κs)) (T′.the-laws (namedLft 1 0 tt κs)) 𝓤 H A W .typed (a .0) _
         (are .0) .0)))
 
-    meets : (g : Name) (𝓣 : Tables 𝓤 H) → Triple 𝓤 (𝓣 .C g) (Core R Said 𝓤 H A)
-        → Meets 𝓤 H A signature (WpFn 𝓤 H (𝓣 .C) (𝓣 .Λ) (function g)) (closing 𝓤 H A ended (clauses 𝓤))
-    meets g 𝓣 known =
-        walk-meets 𝓤 H A ended stayed W
-        (goes-none 𝓤 H A W 1 (λ κs. B (namedLft 1 0 tt κs)) yes (λ κs x f. refl), tt) (clauses 𝓤)
-        (WpFn 𝓤 H (𝓣 .C) (𝓣 .Λ) (function g)) (WpFn-mono 𝓤 H (W .laws) 𝓣 (function g))
-        (walks g (𝓣 .C) (𝓣 .Λ) (fmOf 𝓤 H (W .laws) 𝓣) known)
-
   module _ {M : Type 1} (𝓤 : URA M) (H : Heap 𝓤) (𝓜 : Model 𝓤 H) (𝓖 : GhostRules 𝓤 H) (𝓡 : Running 𝓤 H 𝓜)
       (γ : Env) where
+    abbrev W : Given 𝓤 H (𝓖 .A)
+    W = givenOf 𝓤 H 𝓜 𝓖
+
     pub thin : (name g : Name) → Closed 𝓤 H (tables 𝓤 H 𝓜 𝓡 γ .C) (tables 𝓤 H 𝓜 𝓡 γ .Λ) name (function g)
         → (r : Routine) → γ g ≡ r → Triple 𝓤 (𝓡 .run r) (Core R Said 𝓤 H (𝓖 .A))
         → Meets 𝓤 H (𝓖 .A) signature (𝓡 .run (γ name)) (closing 𝓤 H (𝓖 .A) ended (clauses 𝓤))
-    thin name g unfolded r calls met =
-        over 𝓤 H 𝓜 𝓡 γ (Of 𝓤 H (𝓖 .A)) (Core R Said 𝓤 H (𝓖 .A)) name (function g) unfolded g r calls met
-        (meets 𝓤 H (𝓖 .A) (givenOf 𝓤 H 𝓜 𝓖) g)
+    thin name g =
+        by-walk 𝓤 H 𝓜 𝓡 γ 𝓖 ended stayed (clauses 𝓤) (Core R Said 𝓤 H (𝓖 .A))
+        (goes-none 𝓤 H (𝓖 .A) W 1 (λ κs. B (namedLft 1 0 tt κs)) yes (λ κs x f. refl), tt) name g (function g)
+        (walks 𝓤 H (𝓖 .A) W g)

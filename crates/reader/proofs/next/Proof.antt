@@ -14,7 +14,7 @@ use base.Logic.{SProp, ent}
 use base.Fml.{GName, Lft, Share, ftrue, flft, fobs, fbor, fat}
 use prog.Memory.{Memory}
 use prog.Routine.{Routine}
-use prog.Wp.{Heap, Calls, Loops, WpFn, Tables}
+use prog.Wp.{Heap, Calls, Loops, WpFn}
 use ghost.Atoms.{Atoms}
 use contract.Lifetimes.{AllOutlive}
 use contract.Monad.{Fun}
@@ -25,7 +25,7 @@ use types.Part.{whole, sub, look-in, store-in}
 use types.Run.{look, init, stop, hop, fld, from, load, of-opd, and-then, no-more, assigns, land, returns, enter}
 use types.Run.{alloc1, alloc0, params1, pass1, pass0, free0}
 use types.SemTy.{Body}
-use sound.WpLaws.{FmC, fmOf, WpFn-mono}
+use sound.WpLaws.{FmC}
 use denote.RattleType.{RattleType, owns}
 use denote.Laws.{Is, shows}
 use denote.Memory.{mem, cellAt}
@@ -37,15 +37,15 @@ use denote.Struct.Steps.{spelt}
 use denote.Triple.Statement.{Triple}
 use denote.Triple.Call.{calls-at}
 use denote.Triple.Entry.{onEntry}
-use denote.Triple.Spec.{Meets, tripleOf}
-use denote.Triple.Walked.{says, needs, Stays, stay-ref, walkOf, goes-ref, Walks, ends-at, walked, walk-meets}
+use denote.Triple.Spec.{tripleOf}
+use denote.Triple.Walked.{says, needs, Stays, stay-ref, walkOf, goes-ref, Walks, ends-at, walked}
 use Rattle.places.specs.Places.{takenAt}
 use Rattle.reader.specs.Reading.{Standing}
 use Rattle.reader.specs.declared.Reader.{Reader}
 use Rattle.places.specs.declared.Taken.{Taken}
 use Rattle.reader.proofs.Reader as T
 use Rattle.reader.proofs.Reader.Laws as T′
-use Rattle.walk_laws.proofs.Calling.{over}
+use Rattle.walk_laws.proofs.Calling.{by-walk}
 use Rattle.walk_laws.proofs.Data.{typed-at}
 use Rattle.log.proofs.Found as S
 use Rattle.reader.proofs.Walks.{answers, gone}
@@ -185,17 +185,11 @@ module _ {M : Type 1} (𝓤 : URA M) (H : Heap 𝓤) (A : Atoms 𝓤) (W : Given
       (λ κs qs bounds a g are. needs 𝓤 _ _ (walk 𝓤 H A W mem run (κs .0) (κs .1 .0) (qs .0) (qs .1 .0) bounds
       (a .0 .ptr .0) (a .0 .ptr .1) (a .0 .name) (a .0 .now) C Λ fm known))
 
-  meets : (𝓣 : Tables 𝓤 H) → Triple 𝓤 (𝓣 .C take-def.name) (Core takenData Takes 𝓤 H A)
-      → Meets 𝓤 H A self.signature (WpFn 𝓤 H (𝓣 .C) (𝓣 .Λ) code.function) (self.spec 𝓤 H A mem run)
-  meets 𝓣 known =
-      walk-meets 𝓤 H A self.ended stayed W (goes-ref 𝓤 H A W 2 0 tt behind, tt) (self.clauses 𝓤 H A mem run)
-      (WpFn 𝓤 H (𝓣 .C) (𝓣 .Λ) code.function) (WpFn-mono 𝓤 H (W .laws) 𝓣 code.function)
-      (walks (𝓣 .C) (𝓣 .Λ) (fmOf 𝓤 H (W .laws) 𝓣) known)
-
 pub next-spec : {M : Type 1} → stated.statement M
 unfolding code.routine
 next-spec 𝓤 H 𝓜 𝓖 𝓡 =
-    over 𝓤 H 𝓜 𝓡 code.env (tripleOf 𝓤 H (𝓖 .A) self.signature (self.spec 𝓤 H (𝓖 .A) (𝓜 .mem) (𝓡 .run)))
-    (Core takenData Takes 𝓤 H (𝓖 .A)) key.name code.function (code.unfolded 𝓤 H 𝓜 𝓡) take-def.name take-def.routine
-    code.calls-places·take-at (take-thm.met 𝓤 H 𝓜 𝓖 𝓡)
-    (meets 𝓤 H (𝓖 .A) (givenOf 𝓤 H 𝓜 𝓖) (𝓜 .mem) (𝓡 .run))
+    let W = givenOf 𝓤 H 𝓜 𝓖 in
+    by-walk 𝓤 H 𝓜 𝓡 code.env 𝓖 self.ended stayed (self.clauses 𝓤 H (𝓖 .A) (𝓜 .mem) (𝓡 .run))
+    (Core takenData Takes 𝓤 H (𝓖 .A)) (goes-ref 𝓤 H (𝓖 .A) W 2 0 tt behind, tt) key.name take-def.name code.function
+    (walks 𝓤 H (𝓖 .A) W (𝓜 .mem) (𝓡 .run)) (code.unfolded 𝓤 H 𝓜 𝓡) take-def.routine code.calls-places·take-at
+    (take-thm.met 𝓤 H 𝓜 𝓖 𝓡)

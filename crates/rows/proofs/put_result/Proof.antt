@@ -1,4 +1,5 @@
--- `rows::put_result` meets its contract. The invariant: the first i entries are written, and no others. Assumes nothing.
+-- `rows::put_result` meets its contract. The invariant: the first i entries are written, and no others. Assumes
+-- nothing.
 use borrow.Author.Needs.{needs}
 use Prim.Native.Nat.{_-_, _<_}
 use native.Mathlib.Omega.{arith}

@@ -48,8 +48,9 @@ returns-2 : tie.Need-returns-2
 returns-2 c =
     let q = start (ran c) .pre .0 in
     let past = c .before .before .before .before .before .before .before in
+    let put = c .before .before .put-result .ensures in
     table-runs _ _ _ _ _ q
-    (answer-finished _ _ _ _ _ _ (ran c .run-rows .ensures) _ (past .if1 .left) _ (c .before .before .put-result .ensures)
+    (answer-finished _ _ _ _ _ _ (ran c .run-rows .ensures) _ (past .if1 .left) _ put
     (omega (arith, q .tasks-equal, q .fits)))
 
 pub run-noted-spec : {M : Type 1} → statement M
