@@ -1,5 +1,7 @@
-// Judging a call before the clock moves, refusals 10 to 13: one place for runs and tables.
+// Judging a call before the clock moves, refusals 10 to 13, and a table's columns, 20 to 22: one place for runs and
+// tables.
 ghost use mathlib.Core.Path.{_≡_};
+ghost use Rattle.rule.specs.Table.{columnRefusal};
 ghost use Rattle.requests.specs.Early.{timeRefusal, earlyRefusal};
 
 // The refusal of a time by 10 or 11, or 0.
@@ -31,6 +33,25 @@ pub fn early_refusal(count: u32, clock: u32, time: u32, task: u32, amount: u32) 
     }
     if 1_000_000 < amount {
         return 13;
+    }
+    0
+}
+
+// The refusal of the columns by their lengths, or 0.
+pub fn column_refusal(times: usize, tasks: usize, amounts: usize, room: usize) -> u32
+    ensures { λ r. ⌜ r ≡ columnRefusal times tasks amounts room ⌝ }
+{
+    if tasks != times {
+        return 20;
+    }
+    if amounts != times {
+        return 20;
+    }
+    if 1_024 < times {
+        return 21;
+    }
+    if room < times {
+        return 22;
     }
     0
 }

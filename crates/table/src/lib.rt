@@ -4,7 +4,6 @@ ghost use mathlib.Core.Path.{_≡_};
 ghost use Prim.Native.Nat.{_<_};
 ghost use lib.ListN.{length};
 ghost use Rattle.rule.specs.Setups.{asked};
-ghost use Rattle.rule.specs.Table.{columnRefusal};
 ghost use Rattle.laws.specs.Rows.{Tabled};
 ghost use Rattle.table.specs.Answers.{AnswersTable};
 
@@ -12,25 +11,6 @@ ghost use Rattle.table.specs.Answers.{AnswersTable};
 pub enum TableAnswer {
     Finished(u32),
     Refused(u32, u32),
-}
-
-// The refusal of the columns by their lengths, or 0.
-fn column_refusal(times: usize, tasks: usize, amounts: usize, room: usize) -> u32
-    ensures { λ r. ⌜ r ≡ columnRefusal times tasks amounts room ⌝ }
-{
-    if tasks != times {
-        return 20;
-    }
-    if amounts != times {
-        return 20;
-    }
-    if 1_024 < times {
-        return 21;
-    }
-    if room < times {
-        return 22;
-    }
-    0
 }
 
 // The rows of an accepted setup and of columns that fit, with notes for each row and one more.
@@ -99,7 +79,7 @@ pub fn table(
     if wrong != 0 {
         return TableAnswer::Refused(wrong, 0);
     }
-    let misfit = column_refusal(times.len(), tasks.len(), amounts.len(), result.len());
+    let misfit = requests::column_refusal(times.len(), tasks.len(), amounts.len(), result.len());
     if misfit != 0 {
         return TableAnswer::Refused(misfit, 0);
     }

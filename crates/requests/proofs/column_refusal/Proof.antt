@@ -1,11 +1,11 @@
--- `table::column_refusal` meets its contract: each return is the next refusal of the list. Assumes nothing.
+-- `requests::column_refusal` meets its contract: each return is the next refusal of the list. Assumes nothing.
 use mathlib.Core.Path.{_≡_}
 use mathlib.Core.Bool.{false, not, _&&_}
 use lib.Dec.{ltb, eqb}
 use borrow.Author.Tests.{eq-eqb, ne-eqb, lt-ltb, le-ltb}
 use Rattle.rule.specs.Table.{columnRefusal}
-use Rattle.table.proofs.column_refusal.Statement.{statement}
-use Rattle.table.proofs.column_refusal.Tie as tie
+use Rattle.requests.proofs.column_refusal.Statement.{statement}
+use Rattle.requests.proofs.column_refusal.Tie as tie
 
 -- what is asked, from past the tests of the lengths
 abbrev start : tie.Else2 → tie.Start
