@@ -13,14 +13,14 @@ use Rattle.rule.specs.declared.Setup.{Setup}
 use Rattle.rule.specs.declared.Run.{Run}
 use Rattle.laws.specs.Sound.{Sound}
 use Rattle.line.specs.Places.{queueAt, Tasks, Heads}
-use Rattle.steps.specs.Parts.{parts, Kept}
-use Rattle.steps.specs.declared.Cursor.{Cursor}
+use Rattle.legs.specs.Parts.{parts, Kept}
+use Rattle.legs.specs.declared.Cursor.{Cursor}
 use Rattle.engine.specs.Inner.{straightTo}
 use Rattle.engine.specs.Promises.{Apart}
 use Rattle.line.proofs.Queues.{queueAt-priority, queueAt-zero, straight-take}
 use Rattle.line.proofs.Heads.{heads-inside, heads-serves}
 use Rattle.engine.proofs.Joining.{with-queue, straight-whole, straight-clear}
-use Rattle.steps.proofs.Legs.{places-tasks}
+use Rattle.legs.proofs.Legs.{places-tasks}
 
 module _ (r : Run) (T : Tidy r) where
   pub run-tasks : Sound (view r) → Tasks (r .queue)

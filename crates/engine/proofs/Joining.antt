@@ -16,8 +16,8 @@ use Rattle.rule.specs.Tick.{chosen}
 use Rattle.rule.specs.Calls.{opened}
 use Rattle.rule.specs.declared.Setup.{Setup}
 use Rattle.line.specs.Places.{queueAt, Tasks, Heads}
-use Rattle.steps.specs.Parts.{Kept}
-use Rattle.steps.specs.declared.Cursor.{Cursor}
+use Rattle.legs.specs.Parts.{Kept}
+use Rattle.legs.specs.declared.Cursor.{Cursor}
 use Rattle.engine.specs.Inner.{straightTo, Opens}
 use Rattle.line.proofs.Rings.{clear-set}
 use Rattle.line.proofs.Heads.{chosen-robin, heads-inside, heads-serves, serves-heads, heads-set}

@@ -16,10 +16,10 @@ use Rattle.laws.proofs.Made.{queue-short, request-sound}
 use Rattle.requests.specs.Early.{earlyRefusal}
 use Rattle.requests.proofs.Early.{early-between, refusal-now, refusal-open, refusal-none}
 use Rattle.line.specs.Places.{queueAt}
-use Rattle.steps.specs.Parts.{parts, Kept}
+use Rattle.legs.specs.Parts.{parts, Kept}
 use Rattle.engine.specs.Inner.{Opens}
 use Rattle.engine.specs.Promises.{Reached, afterAsk, Asks}
-use Rattle.steps.specs.declared.Cursor.{Cursor}
+use Rattle.legs.specs.declared.Cursor.{Cursor}
 use Rattle.line.proofs.Queues.{queueAt-length}
 
 -- ---- what the request leaves

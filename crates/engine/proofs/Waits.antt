@@ -14,12 +14,12 @@ use Rattle.laws.specs.Sound.{Sound}
 use Rattle.laws.specs.Next.{DoneNext}
 use Rattle.laws.proofs.Sound.{ticks-sound}
 use Rattle.laws.proofs.NextDone.{next-jumped, next-passed}
-use Rattle.steps.specs.Parts.{parts, Kept, servedTo}
-use Rattle.steps.specs.Inner.{Leads}
-use Rattle.steps.specs.declared.Cursor.{Cursor}
-use Rattle.steps.specs.declared.Leg.{Leg}
-use Rattle.steps.proofs.Legs.{leg-clock, leg-owes, leg-turn, leg-chosen, leg-some}
-use Rattle.steps.proofs.Legs.{parts-some, served-kept, served-ticks}
+use Rattle.legs.specs.Parts.{parts, Kept, servedTo}
+use Rattle.legs.specs.Inner.{Leads}
+use Rattle.legs.specs.declared.Cursor.{Cursor}
+use Rattle.legs.specs.declared.Leg.{Leg}
+use Rattle.legs.proofs.Legs.{leg-clock, leg-owes, leg-turn, leg-chosen, leg-some}
+use Rattle.legs.proofs.Legs.{parts-some, served-kept, served-ticks}
 
 -- what is done next from here on is done next from start on
 pub record Waits (start : State) (s : Setup) (c : Cursor) (q o d : List ℕ) : Type 0 where

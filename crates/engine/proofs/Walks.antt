@@ -11,10 +11,10 @@ use Rattle.rule.specs.declared.Setup.{Setup}
 use Rattle.laws.specs.Sound.{Sound}
 use Rattle.laws.proofs.Ticks.{ticks-zero, ticks-add}
 use Rattle.laws.proofs.Sound.{ticks-sound}
-use Rattle.steps.specs.Parts.{Kept}
+use Rattle.legs.specs.Parts.{Kept}
 use Rattle.steps.specs.Inner.{Stepped}
 use Rattle.engine.specs.Promises.{Reached}
-use Rattle.steps.specs.declared.Cursor.{Cursor}
+use Rattle.legs.specs.declared.Cursor.{Cursor}
 
 -- the parts stand for the state now, which comes of start by ticks
 pub record Going (time : ℕ) (s : Setup) (start : State) (c : Cursor) (q : List ℕ) (now : State) : Type 0 where

@@ -6,8 +6,8 @@ use mathlib.Core.List.{List}
 use Rattle.rule.specs.Setups.{isPriority}
 use Rattle.rule.specs.Calls.{opened}
 use Rattle.rule.specs.declared.Setup.{Setup}
-use Rattle.steps.specs.Parts.{parts, Kept}
-use Rattle.steps.specs.declared.Cursor.{Cursor}
+use Rattle.legs.specs.Parts.{parts, Kept}
+use Rattle.legs.specs.declared.Cursor.{Cursor}
 
 -- the queue from place 0 on, under both policies
 unfoldable pub straightTo : Setup → Cursor → Cursor

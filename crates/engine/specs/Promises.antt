@@ -12,8 +12,8 @@ use Rattle.rule.specs.declared.Setup.{Setup}
 use Rattle.rule.specs.declared.Run.{Run}
 use Rattle.laws.specs.Sound.{Sound}
 use Rattle.laws.specs.Next.{DoneNext}
-use Rattle.steps.specs.Parts.{parts, Kept}
-use Rattle.steps.specs.declared.Cursor.{Cursor}
+use Rattle.legs.specs.Parts.{parts, Kept}
+use Rattle.legs.specs.declared.Cursor.{Cursor}
 use Rattle.engine.specs.declared.Asked.{Asked}
 use Rattle.engine.specs.declared.Completion.{Completion}
 

@@ -2,9 +2,9 @@
 // clock, a request, the next completion, a run taken apart and put together. Inside: a task that joins (opening).
 mod opening;
 
+use legs::Cursor;
 use rule::Run;
 use rule::Setup;
-use steps::Cursor;
 ghost use mathlib.Core.Path.{_≡_};
 ghost use Prim.Native.Nat.{_+_, _≤_, _<_, _^_};
 ghost use lib.ListN.{length};
@@ -12,7 +12,7 @@ ghost use Rattle.lists.specs.Lists.{total};
 ghost use Rattle.rule.specs.Calls.{moved, drained};
 ghost use Rattle.rule.specs.View.{view, Tidy, Shows};
 ghost use Rattle.laws.specs.Sound.{Sound};
-ghost use Rattle.steps.specs.Parts.{parts, Kept};
+ghost use Rattle.legs.specs.Parts.{parts, Kept};
 ghost use Rattle.engine.specs.Promises.{Reached, Asks, Owing, SoonestIs, Apart};
 
 // The clock moves to a time that is not before it.
@@ -135,7 +135,7 @@ pub fn soonest(s: Setup, from: Cursor, queue: &[u8; 32], owed: &[u32; 32]) -> Co
     let mut left = *owed;
     let mut c = from;
     loop {
-        let leg = steps::next_leg(s, c, 4_032_000_000, queue, &left);
+        let leg = legs::next_leg(s, c, 4_032_000_000, queue, &left);
         let ready = leg.cursor;
         if leg.owed == leg.n {
             return Completion {
@@ -145,7 +145,7 @@ pub fn soonest(s: Setup, from: Cursor, queue: &[u8; 32], owed: &[u32; 32]) -> Co
         }
         let i = leg.task as usize;
         left[i] = leg.owed - leg.n;
-        c = steps::served(s, ready, leg.n);
+        c = legs::served(s, ready, leg.n);
     }
 }
 

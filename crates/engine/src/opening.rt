@@ -1,12 +1,12 @@
 // What a request does after the move of the clock: the task joins.
+use legs::Cursor;
 use rule::Setup;
-use steps::Cursor;
 ghost use mathlib.Core.Path.{_≡_};
 ghost use Prim.Native.Nat.{ℕ, _+_, _<_};
 ghost use mathlib.Core.List.{_++_};
 ghost use lib.ListN.{drop};
 ghost use Rattle.line.specs.Places.{queueAt, Tasks};
-ghost use Rattle.steps.specs.Parts.{Kept};
+ghost use Rattle.legs.specs.Parts.{Kept};
 ghost use Rattle.engine.specs.Inner.{straightTo, Opens};
 
 // The queue from place 0 on.

@@ -9,7 +9,7 @@ use Rattle.laws.specs.Drains.{lastClock}
 use Rattle.laws.proofs.Made.{made-sound}
 use Rattle.engine.specs.Promises.{Apart}
 use Rattle.engine.proofs.Assembly.{apart-clock}
-use Rattle.steps.specs.declared.Cursor.{Cursor}
+use Rattle.legs.specs.declared.Cursor.{Cursor}
 
 pub made-few : (r : Run) → MadeRun r → r .setup .count ≤ 32
 made-few r m = made-sound (view r) (m .made) .few

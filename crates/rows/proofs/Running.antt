@@ -20,9 +20,9 @@ use Rattle.laws.proofs.Refusals.{request-accepted, accepted-acts}
 use Rattle.laws.proofs.Made.{fresh-sound}
 use Rattle.laws.proofs.Drain.{owed-limit}
 use Rattle.line.specs.Places.{queueAt}
-use Rattle.steps.specs.Parts as steps
-use Rattle.steps.specs.Parts.{parts}
-use Rattle.steps.specs.declared.Cursor.{Cursor}
+use Rattle.legs.specs.Parts as legs
+use Rattle.legs.specs.Parts.{parts}
+use Rattle.legs.specs.declared.Cursor.{Cursor}
 use Rattle.engine.specs.Promises.{Asks, Reached}
 use Rattle.engine.specs.declared.Asked.{Asked}
 use Rattle.engine.proofs.Requests.{asked-taken}
@@ -52,7 +52,7 @@ begun-parts p =
       done = zeros32;
     }) (cond-same (isPriority p) [])
 
-begun-kept : (p : Setup) → steps.Kept p begun zeros32
+begun-kept : (p : Setup) → legs.Kept p begun zeros32
 begun-kept p =
     record { fits = zero-le; whole = refl; clear = refl; inside = zero-le; serves = λ h. absurd (not-suc-le-zero h) }
 
@@ -69,7 +69,7 @@ request-clock s t k a z =
 -- after i rows
 pub record Going (p : Setup) (ts ks ms noted₀ : List ℕ) (c : Cursor) (q o g d last noted : List ℕ) (i : ℕ)
     : Type 0 where
-  pub kept : steps.Kept p c q
+  pub kept : legs.Kept p c q
   pub sound : Sound (parts p c q o g d)
   pub soon : c .clock ≤ lastTime
   pub rows : Kept ts ks ms (fresh p) (parts p c q o g d) last noted i (length noted₀)

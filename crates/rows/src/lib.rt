@@ -52,7 +52,7 @@ pub fn run_rows(
     let mut given = [0u32; 32];
     let mut done = [0u32; 32];
     let mut last = [0u32; 32];
-    let mut cursor = steps::Cursor {
+    let mut cursor = legs::Cursor {
         clock: 0,
         idle: 0,
         used: 0,

@@ -4,10 +4,10 @@ use native.Mathlib.Omega.{arith}
 use mathlib.Core.Path.{_≡_, sym, _∙_}
 use borrow.Author.Needs.{needs}
 use Rattle.laws.specs.Sound.{Sound}
-use Rattle.steps.specs.Parts.{parts}
+use Rattle.legs.specs.Parts.{parts}
 use Rattle.requests.specs.Early.{earlyRefusal}
 use Rattle.requests.proofs.Early.{Passed, early-passed}
-use Rattle.steps.proofs.Legs.{kept-tasks}
+use Rattle.legs.proofs.Legs.{kept-tasks}
 use Rattle.engine.proofs.Requests.{asks-early, asks-open, queue-room, asks-taken}
 use Rattle.engine.proofs.ask.Statement.{statement}
 use Rattle.engine.proofs.ask.Tie as tie

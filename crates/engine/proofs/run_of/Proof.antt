@@ -3,7 +3,7 @@ use native.Mathlib.Omega.{arith}
 use mathlib.Core.Path.{ap}
 use borrow.Author.Needs.{needs}
 use Rattle.engine.specs.Inner.{straightTo}
-use Rattle.steps.specs.declared.Cursor.{Cursor}
+use Rattle.legs.specs.declared.Cursor.{Cursor}
 use Rattle.engine.proofs.Assembly.{together}
 use Rattle.engine.proofs.run_of.Statement.{statement}
 use Rattle.engine.proofs.run_of.Tie as tie

@@ -6,8 +6,8 @@ use mathlib.Core.List.{List}
 use lib.ListN.{set}
 use Rattle.lists.specs.Lists.{at, total}
 use Rattle.laws.specs.Sound.{Sound}
-use Rattle.steps.specs.Parts.{parts}
-use Rattle.steps.proofs.Legs.{ready, leg-known}
+use Rattle.legs.specs.Parts.{parts}
+use Rattle.legs.proofs.Legs.{ready, leg-known}
 use Rattle.engine.proofs.Waits.{Waits, waits-start, waits-time, waits-end, waits-step, waits-less}
 use Rattle.engine.proofs.soonest.Statement.{statement}
 use Rattle.engine.proofs.soonest.Tie as tie

@@ -1,7 +1,7 @@
 -- Invariant: the parts stand for the state that comes of the first by ticks (Walks). Measure: the ticks to the time.
 use Prim.Native.Nat.{_-_}
 use native.Mathlib.Omega.{arith}
-use Rattle.steps.specs.Parts.{parts}
+use Rattle.legs.specs.Parts.{parts}
 use Rattle.engine.proofs.Walks.{Going, going-start, going-step, going-end}
 use Rattle.engine.proofs.walk.Statement.{statement}
 use Rattle.engine.proofs.walk.Tie as tie

@@ -1,10 +1,11 @@
 -- Idle ticks, a whole slice to a task that is owed more, or the next row of ticks.
 use Prim.Native.Nat.{_+_, _<_, _≤_}
 use native.Mathlib.Omega.{arith}
+use mathlib.Core.Path.{sym, _∙_}
 use borrow.Author.Needs.{needs}
-use Rattle.steps.specs.Inner.{SliceDue}
-use Rattle.steps.proofs.Legs.{ready, leg-known, leg-owes, leg-time, leg-gives}
-use Rattle.steps.proofs.Legs.{rested-stepped, served-stepped, stepped-sooner}
+use Rattle.legs.proofs.Turns.{sliceDue-robin, sliceDue-whole}
+use Rattle.legs.proofs.Legs.{ready, leg-known, leg-owes, leg-time, leg-gives}
+use Rattle.steps.proofs.Stepped.{rested-stepped, served-stepped, stepped-sooner}
 use Rattle.steps.proofs.step.Statement.{statement}
 use Rattle.steps.proofs.step.Tie as tie
 
@@ -16,11 +17,13 @@ module _ (c : tie.After-next-leg) where
   some : 0 < start .args .c .queued
   some = omega (arith, c .before .before .before .before .before .before .before .if1 .left)
 
-  due : let a = start .args in SliceDue (a .s) (a .c) (a .limit)
-  due = c .before .before .before .before .slice-due .ensures (c .before .before .before .if3 .taken)
+  whole : start .args .s .slice ≤ start .args .limit
+  whole =
+      sliceDue-whole (start .args .s) (start .args .c) (start .args .limit)
+      (sym (c .before .before .before .before .slice-due .ensures) ∙ c .before .before .before .if3 .taken)
 
   time : start .args .c .clock + start .args .s .slice ≤ 4_032_000_000
-  time = omega (arith, due .whole, start .pre .1 .1 .1)
+  time = omega (arith, whole, start .pre .1 .1 .1)
 
 returns : tie.Need-returns
 returns c =
@@ -43,9 +46,10 @@ next-leg-requires : tie.Need-next-leg-requires
 next-leg-requires c κs =
     let busy = c .before .before .before .before .before .before in
     let p = busy .before .before .pre in
-    let D = c .before .before .before .slice-due .ensures (c .before .before .if3 .taken) in (
+    let a = busy .before .before .args in
+    let e = sym (c .before .before .before .slice-due .ensures) ∙ c .before .before .if3 .taken in (
       ready _ _ _ _ _ _ (p .0) (p .1 .0) (omega (arith, busy .if1 .left)),
-      p .1 .0 .sliced (D .robin) .some,
+      p .1 .0 .sliced (sliceDue-robin (a .s) (a .c) (a .limit) e) .some,
     )
 
 given-to-requires : tie.Need-given-to-requires
@@ -73,7 +77,7 @@ returns-3 c =
     let p = start l .pre in
     let w = c .before .given-to .ensures in
     let L = l .next-leg .ensures in
-    stepped-sooner _ _ _ _ _ _ _ (due l .whole)
+    stepped-sooner _ _ _ _ _ _ _ (whole l)
     (served-stepped _ _ _ _ _ _ (p .0) (p .1 .0) (some l) _ _ L (c .served .result) _ _
     (omega (arith, L .owes, c .before .before .before .before .if4 .taken)) (c .served .ensures) (w .0) (w .1))
 

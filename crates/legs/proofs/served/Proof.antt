@@ -1,8 +1,8 @@
 -- By the definition, and that of the used count.
 use borrow.Author.Needs.{needs}
-use Rattle.steps.specs.Parts.{servedTo}
-use Rattle.steps.proofs.served.Statement.{statement}
-use Rattle.steps.proofs.served.Tie as tie
+use Rattle.legs.specs.Parts.{servedTo}
+use Rattle.legs.proofs.served.Statement.{statement}
+use Rattle.legs.proofs.served.Tie as tie
 
 returns : tie.Need-returns
 unfolding servedTo

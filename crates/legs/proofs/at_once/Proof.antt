@@ -2,8 +2,8 @@
 use native.Mathlib.Omega.{arith}
 use borrow.Author.Tests.{eqb-false, ne-eqb}
 use borrow.Author.Needs.{needs}
-use Rattle.steps.proofs.at_once.Statement.{statement}
-use Rattle.steps.proofs.at_once.Tie as tie
+use Rattle.legs.proofs.at_once.Statement.{statement}
+use Rattle.legs.proofs.at_once.Tie as tie
 
 returns : tie.Need-returns
 returns c =

@@ -1,9 +1,9 @@
 -- Each return is a case of the definition's tests.
 use borrow.Author.Tests.{eq-eqb, ne-eqb}
 use borrow.Author.Needs.{needs}
-use Rattle.steps.specs.Parts.{turnedTo}
-use Rattle.steps.proofs.turned.Statement.{statement}
-use Rattle.steps.proofs.turned.Tie as tie
+use Rattle.legs.specs.Parts.{turnedTo}
+use Rattle.legs.proofs.turned.Statement.{statement}
+use Rattle.legs.proofs.turned.Tie as tie
 
 returns : tie.Need-returns
 unfolding turnedTo

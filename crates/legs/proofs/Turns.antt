@@ -1,33 +1,44 @@
--- What the turn does to the parts: the cursor's head moves, and no task does. Assumes nothing.
+-- The turn. In order: when it comes; what it does to the parts: the cursor's head moves, and no task does. Assumes
+-- nothing.
 use Prim.Native.Nat.{ℕ, _+_, _≤_, _<_}
 use native.Mathlib.Omega.{arith}
 use mathlib.Core.Path.{_≡_, sym, ap, _∙_}
 use mathlib.Core.Bool.{Bool, true, false, cond, false≢true}
 use mathlib.Core.List.{List}
-use lib.Dec.{eqb}
-use borrow.Author.Tests.{eqb-false}
-use Rattle.lists.proofs.Testing.{tested, cond-true, cond-false}
+use lib.Dec.{eqb, leb}
+use borrow.Author.Tests.{eqb-false, leb-true}
+use Rattle.lists.proofs.Testing.{tested, cond-true, cond-false, and-true}
 use Rattle.rule.specs.Setups.{isPriority}
 use Rattle.rule.specs.Tick.{overdue, headBack, turn}
 use Rattle.rule.specs.declared.Setup.{Setup}
 use Rattle.line.specs.Places.{queueAt}
-use Rattle.steps.specs.Parts.{parts, Kept, due, nextPlace, turnedTo}
-use Rattle.steps.specs.Inner.{Room}
-use Rattle.steps.specs.declared.Cursor.{Cursor}
+use Rattle.legs.specs.Parts.{parts, Kept, due, sliceDue, nextPlace, turnedTo}
+use Rattle.legs.specs.Inner.{Room}
+use Rattle.legs.specs.declared.Cursor.{Cursor}
 use Rattle.line.proofs.Rings.{ring-next}
 use Rattle.line.proofs.Queues.{queueAt-robin}
 use Rattle.line.proofs.Heads.{chosen-robin}
+
+-- ---- when it comes
+
+pub due-robin : (s : Setup) (c : Cursor) → due s c ≡ true → isPriority s ≡ false
+due-robin s c e =
+    tested (isPriority s)
+    (λ f. absurd (false≢true (sym (cond-true false (eqb (c .used) (s .slice)) f) ∙ e)))
+    (λ f. f)
+
+pub sliceDue-robin : (s : Setup) (c : Cursor) (limit : ℕ) → sliceDue s c limit ≡ true → isPriority s ≡ false
+sliceDue-robin s c limit e = due-robin s c (and-true (due s c) (leb (s .slice) limit) e .0)
+
+pub sliceDue-whole : (s : Setup) (c : Cursor) (limit : ℕ) → sliceDue s c limit ≡ true → s .slice ≤ limit
+sliceDue-whole s c limit e = leb-true (s .slice) limit (and-true (due s c) (leb (s .slice) limit) e .1)
+
+-- ---- what it does
 
 next-below : (h n : ℕ) (b : Bool) → h < n → cond b (cond (eqb (h + 1) n) 0 (h + 1)) h < n
 next-below h n false l = l
 next-below h n true l =
     tested (eqb (h + 1) n) (λ e. rw e (omega arith)) (λ e. rw e (omega (arith, eqb-false (h + 1) n e)))
-
-due-robin : (s : Setup) (c : Cursor) → due s c ≡ true → isPriority s ≡ false
-due-robin s c e =
-    tested (isPriority s)
-    (λ f. absurd (false≢true (sym (cond-true false (eqb (c .used) (s .slice)) f) ∙ e)))
-    (λ f. f)
 
 pub turned-room : (s : Setup) (c : Cursor) → (isPriority s ≡ false → (0 < s .slice) × (c .used ≤ s .slice))
     → Room s (turnedTo s c .used) 1

@@ -5,10 +5,10 @@ use mathlib.Core.Path.{refl}
 use borrow.Author.Needs.{needs}
 use Rattle.lists.specs.Lists.{at}
 use Rattle.lists.proofs.Totals.{at-inside}
-use Rattle.steps.proofs.Turns.{turned-some, turned-room}
-use Rattle.steps.proofs.Legs.{ready-owes}
-use Rattle.steps.proofs.next_leg.Statement.{statement}
-use Rattle.steps.proofs.next_leg.Tie as tie
+use Rattle.legs.proofs.Turns.{turned-some, turned-room}
+use Rattle.legs.proofs.Legs.{ready-owes}
+use Rattle.legs.proofs.next_leg.Statement.{statement}
+use Rattle.legs.proofs.next_leg.Tie as tie
 
 -- after the turn the head stands in the queue, and its task is owed ticks
 some : (c : tie.After-turned) → c .turned .result .head < c .before .args .c .queued

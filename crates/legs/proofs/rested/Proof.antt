@@ -1,9 +1,9 @@
 -- By the definition.
 use mathlib.Core.Path.{refl}
 use borrow.Author.Needs.{needs}
-use Rattle.steps.specs.Parts.{restedTo}
-use Rattle.steps.proofs.rested.Statement.{statement}
-use Rattle.steps.proofs.rested.Tie as tie
+use Rattle.legs.specs.Parts.{restedTo}
+use Rattle.legs.proofs.rested.Statement.{statement}
+use Rattle.legs.proofs.rested.Tie as tie
 
 returns : tie.Need-returns
 unfolding restedTo

@@ -2,17 +2,17 @@
 -- and of the completions. In order: the state of the parts; the cursor's moves. Assumes nothing.
 use Prim.Native.Nat.{ℕ, _+_, _-_, _≤_, _<_}
 use mathlib.Core.Path.{_≡_}
-use mathlib.Core.Bool.{Bool, false, cond}
+use mathlib.Core.Bool.{Bool, false, cond, _&&_}
 use mathlib.Core.List.{List}
 use lib.ListN.{length, drop, replicate}
-use lib.Dec.{eqb}
+use lib.Dec.{eqb, leb}
 use Rattle.lists.specs.Lists.{at}
 use Rattle.rule.specs.Setups.{isPriority}
 use Rattle.rule.specs.State.{State}
 use Rattle.rule.specs.Tick.{chosen, usedMore}
 use Rattle.rule.specs.declared.Setup.{Setup}
 use Rattle.line.specs.Places.{queueAt}
-use Rattle.steps.specs.declared.Cursor.{Cursor}
+use Rattle.legs.specs.declared.Cursor.{Cursor}
 
 -- ---- the state of the parts
 
@@ -42,6 +42,10 @@ pub record Kept (s : Setup) (c : Cursor) (q : List ℕ) : Type 0 where
 -- "if the used count equals the slice length, the head moves to the back"
 abbrev pub due : Setup → Cursor → Bool
 due s c = cond (isPriority s) false (eqb (c .used) (s .slice))
+
+-- such a turn, to which the limit leaves a whole slice
+abbrev pub sliceDue : Setup → Cursor → ℕ → Bool
+sliceDue s c limit = due s c && leb (s .slice) limit
 
 abbrev pub nextPlace : Cursor → ℕ
 nextPlace c = cond (eqb (c .head + 1) (c .queued)) 0 (c .head + 1)

@@ -2,8 +2,8 @@
 use native.Mathlib.Omega.{arith}
 use borrow.Author.Tests.{eq-eqb, ne-eqb}
 use Rattle.rule.specs.Tick.{usedMore}
-use Rattle.steps.proofs.used_more.Statement.{statement}
-use Rattle.steps.proofs.used_more.Tie as tie
+use Rattle.legs.proofs.used_more.Statement.{statement}
+use Rattle.legs.proofs.used_more.Tie as tie
 
 add-result : tie.Need-add-result
 add-result c = omega (arith, c .before .before .pre (ne-eqb _ 1 (c .if1 .left)))

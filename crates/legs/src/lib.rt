@@ -1,0 +1,147 @@
+// The cursor of a run taken apart, and the next row of ticks to one task. In order: the cursor, the turn, the next row of
+// ticks, the cursor after ticks.
+use rule::Setup;
+ghost use mathlib.Core.Path.{_≡_};
+ghost use Prim.Native.Nat.{ℕ, _+_, _≤_, _<_, _^_};
+ghost use Rattle.rule.specs.Tick.{usedMore};
+ghost use Rattle.legs.specs.Parts.{turnedTo, sliceDue, servedTo, restedTo};
+ghost use Rattle.legs.specs.Inner.{Room, Ready, AtOnce, Leads};
+
+// The small numbers of a run, which a move of the clock keeps in registers. The head is the place of the task that is
+// served. The idle ticks are as wide as the places so that no byte of the struct is padding: with padding a step under
+// round robin takes 58 instructions and not 49.
+pub struct Cursor {
+    pub clock: u32,
+    pub used: u32,
+    pub idle: usize,
+    pub queued: usize,
+    pub head: usize,
+}
+
+// A head whose slice is used up moves to the back.
+fn turned(s: Setup, c: Cursor) -> Cursor
+    requires { ⌜ c .head < c .queued ⌝ }
+    ensures { λ r. ⌜ r ≡ turnedTo s c ⌝ }
+{
+    if s.policy == 1 {
+        return c;
+    }
+    if c.used != s.slice {
+        return c;
+    }
+    let next = c.head + 1;
+    if next == c.queued {
+        return Cursor {
+            clock: c.clock,
+            idle: c.idle,
+            used: 0,
+            queued: c.queued,
+            head: 0,
+        };
+    }
+    Cursor {
+        clock: c.clock,
+        idle: c.idle,
+        used: 0,
+        queued: c.queued,
+        head: next,
+    }
+}
+
+fn least(a: u32, b: u32) -> u32
+    ensures { λ r. ⌜ (r ≤ a) × (r ≤ b) × (0 < a → 0 < b → 0 < r) ⌝ }
+{
+    if a < b { a } else { b }
+}
+
+// How many ticks a task may have in a row.
+fn at_once(s: Setup, used: u32, owed: u32, limit: u32) -> u32
+    requires { ⌜ 0 < limit ⌝ }
+    requires { ⌜ 0 < owed ⌝ }
+    requires { ⌜ Room s used 1 ⌝ }
+    ensures { λ r. ⌜ AtOnce s used owed limit r ⌝ }
+{
+    let most = least(owed, limit);
+    if s.policy == 1 {
+        return most;
+    }
+    least(most, s.slice - used)
+}
+
+// The next row of ticks: the cursor after the turn, the task, what it is owed, and how many of them it gets.
+pub struct Leg {
+    pub cursor: Cursor,
+    pub task: u8,
+    pub owed: u32,
+    pub n: u32,
+}
+
+pub fn next_leg(s: Setup, c: Cursor, limit: u32, queue: &[u8; 32], owed: &[u32; 32]) -> Leg
+    requires { ⌜ Ready s c (now queue) (now owed) ⌝ }
+    requires { ⌜ 0 < limit ⌝ }
+    ensures { λ r. ⌜ Leads s c limit (now (queue .entry)) (now (owed .entry)) r ⌝ }
+{
+    let cursor = turned(s, c);
+    let h = cursor.head;
+    let task = queue[h];
+    let i = task as usize;
+    let o = owed[i];
+    let n = at_once(s, cursor.used, o, limit);
+    Leg {
+        cursor,
+        task,
+        owed: o,
+        n,
+    }
+}
+
+// Whether a turn comes, to which the limit leaves a whole slice.
+pub fn slice_due(s: Setup, c: Cursor, limit: u32) -> bool
+    ensures { λ r. ⌜ r ≡ sliceDue s c limit ⌝ }
+{
+    if s.policy == 1 {
+        return false;
+    }
+    if c.used != s.slice {
+        return false;
+    }
+    s.slice <= limit
+}
+
+// The used count after n ticks more; under priority there is none.
+fn used_more(s: Setup, used: u32, n: u32) -> u32
+    requires { ⌜ Room s used n ⌝ }
+    ensures { λ r. ⌜ r ≡ usedMore s used n ⌝ }
+{
+    if s.policy == 1 { 0 } else { used + n }
+}
+
+// After n ticks of which none was the last that the task is owed.
+pub fn served(s: Setup, c: Cursor, n: u32) -> Cursor
+    requires { ⌜ c .clock + n < 2 ^ 32 ⌝ }
+    requires { ⌜ Room s (c .used) n ⌝ }
+    ensures { λ r. ⌜ r ≡ servedTo s c n ⌝ }
+{
+    Cursor {
+        clock: c.clock + n,
+        idle: c.idle,
+        used: used_more(s, c.used, n),
+        queued: c.queued,
+        head: c.head,
+    }
+}
+
+// Idle ticks.
+pub fn rested(c: Cursor, n: u32) -> Cursor
+    requires { ⌜ c .clock + n < 2 ^ 32 ⌝ }
+    requires { ⌜ c .idle ≤ c .clock ⌝ }
+    ensures { λ r. ⌜ r ≡ restedTo c n ⌝ }
+{
+    Cursor {
+        clock: c.clock + n,
+        idle: c.idle + n as usize,
+        used: c.used,
+        queued: c.queued,
+        head: c.head,
+    }
+}
