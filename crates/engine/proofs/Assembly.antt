@@ -19,7 +19,7 @@ use Rattle.engine.specs.Inner.{straightTo}
 use Rattle.engine.specs.Promises.{Apart}
 use Rattle.line.proofs.Queues.{queueAt-priority, queueAt-zero, straight-take}
 use Rattle.line.proofs.Heads.{heads-inside, heads-serves}
-use Rattle.engine.proofs.Joining.{with-queue, straight-whole, straight-clear}
+use Rattle.engine.proofs.Joining.{with-queue, straight-tidy}
 use Rattle.legs.proofs.Legs.{places-tasks}
 
 module _ (r : Run) (T : Tidy r) where
@@ -36,9 +36,7 @@ module _ (r : Run) (T : Tidy r) where
       record {
         kept =
             record {
-              fits = T .fits;
-              whole = T .whole;
-              clear = T .clear;
+              tidy = T;
               inside = heads-inside (r .setup) 0 (r .queued) (r .queue) head H;
               serves = λ p.
                   heads-serves (r .setup) 0 (r .queued) (r .queue) head H p (omega (arith, T .fits, T .whole));
@@ -85,8 +83,8 @@ together s c q q′ o g d r K er e =
     rw er
     record {
       tidy =
-          record { fits = K .fits; whole = straight-whole s c q K q′ e; clear = straight-clear s c q K q′ e };
+          straight-tidy s c q K q′ e;
       shown =
           ap (λ (x : List ℕ). with-queue s c x o g d)
-          (straight-take s (c .head) (c .queued) q q′ (omega (arith, K .fits, K .whole)) e);
+          (straight-take s (c .head) (c .queued) q q′ (omega (arith, K .tidy .fits, K .tidy .whole)) e);
     }

@@ -5,7 +5,7 @@ use native.Mathlib.Omega.{arith}
 use mathlib.Core.Path.{_≡_, sym, ap, _∙_, subst}
 use mathlib.Core.Bool.{Bool, true, false, cond}
 use mathlib.Core.List.{List, _++_}
-use lib.ListN.{length, set, drop, replicate, length-set}
+use lib.ListN.{length, set, drop, length-set}
 use lib.Dec.{ltb}
 use Rattle.lists.specs.Lists.{at}
 use Rattle.lists.proofs.Testing.{tested, cond-same}
@@ -14,6 +14,7 @@ use Rattle.rule.specs.Setups.{isPriority}
 use Rattle.rule.specs.State.{State}
 use Rattle.rule.specs.Tick.{chosen}
 use Rattle.rule.specs.Calls.{opened}
+use Rattle.rule.specs.View.{Clear}
 use Rattle.rule.specs.declared.Setup.{Setup}
 use Rattle.line.specs.Places.{queueAt, Tasks, Heads}
 use Rattle.legs.specs.Parts.{Kept}
@@ -48,17 +49,19 @@ straight-queued s c r e = ap (λ (x : Cursor). x .queued) e
 module _ (s : Setup) (c : Cursor) (q : List ℕ) (K : Kept s c q) (q′ : List ℕ)
     (e : q′ ≡ queueAt s (c .head) (c .queued) q ++ drop (c .queued) q) where
   room : c .queued ≤ length q
-  room = omega (arith, K .fits, K .whole)
+  room = omega (arith, K .tidy .fits, K .tidy .whole)
 
-  pub straight-whole : length q′ ≡ 32
-  straight-whole = straight-length s (c .head) (c .queued) q q′ room e ∙ K .whole
-
-  pub straight-clear : drop (c .queued) q′ ≡ replicate (32 - c .queued) 0
-  straight-clear = straight-drop s (c .head) (c .queued) q q′ room e ∙ K .clear
+  pub straight-tidy : Clear (c .queued) q′
+  straight-tidy =
+      record {
+        fits = K .tidy .fits;
+        whole = straight-length s (c .head) (c .queued) q q′ room e ∙ K .tidy .whole;
+        clear = straight-drop s (c .head) (c .queued) q q′ room e ∙ K .tidy .clear;
+      }
 
   pub straight-tasks : (task : ℕ) → c .queued < 32 → task < 32 → Tasks q → Tasks (set q′ (c .queued) task)
   straight-tasks task l b t =
-      below-set 32 (c .queued) task q′ (omega (arith, straight-whole)) b
+      below-set 32 (c .queued) task q′ (omega (arith, straight-tidy .whole)) b
       (rw e
       (below-append 32 (queueAt s (c .head) (c .queued) q) (drop (c .queued) q)
       (queueAt-below s 32 (c .head) (c .queued) q t)
@@ -70,7 +73,7 @@ module _ (s : Setup) (c : Cursor) (q : List ℕ) (K : Kept s c q) (q′ : List �
   straight-serves p =
       tested (isPriority s)
       (λ f. rw (f, straight-priority s (c .head) (c .queued) q q′ room e f) (K .serves p))
-      (λ f. rw f (sym (chosen-robin s 0 (c .queued) q′ f p (omega (arith, straight-whole, K .fits)))))
+      (λ f. rw f (sym (chosen-robin s 0 (c .queued) q′ f p (omega (arith, straight-tidy .whole, K .tidy .fits)))))
 
   pub straight-heads : (r : Cursor) (task : ℕ) → r ≡ straightTo s c
       → Heads s (r .head) (r .queued) (set q′ (r .queued) task) (r .head)
@@ -79,7 +82,7 @@ module _ (s : Setup) (c : Cursor) (q : List ℕ) (K : Kept s c q) (q′ : List �
       rw er
       (heads-set s (straightTo s c .head) (c .queued) q′ task
       (serves-heads s (straightTo s c .head) (c .queued) q′ (inside (isPriority s))
-      (omega (arith, straight-whole, K .fits))
+      (omega (arith, straight-tidy .whole, K .tidy .fits))
       straight-serves))
     where
       inside : (b : Bool) → cond b (c .head) 0 ≤ c .queued - 1
@@ -104,19 +107,18 @@ module _ (s : Setup) (c : Cursor) (q : List ℕ) (K : Kept s c q) (q′ : List �
           (set q′ (r .queued) task) (set o task amount)
 
       whole : length (set q′ (c .queued) task) ≡ 32
-      whole = length-set q′ (c .queued) task ∙ straight-whole
+      whole = length-set q′ (c .queued) task ∙ straight-tidy .whole
 
-      clear : drop (c .queued + 1) (set q′ (c .queued) task) ≡ replicate (32 - (c .queued + 1)) 0
-      clear = clear-set (c .queued) task q′ b straight-clear
+      tidy : Clear (c .queued + 1) (set q′ (c .queued) task)
+      tidy =
+          record { fits = omega arith; whole = whole; clear = clear-set (c .queued) task q′ b (straight-tidy .clear) }
 
       joins : Joins (straightTo s c)
       joins H =
           record {
             kept =
                 record {
-                  fits = omega arith;
-                  whole = whole;
-                  clear = clear;
+                  tidy = tidy;
                   inside = heads-inside s (straightTo s c .head) (c .queued + 1) (set q′ (c .queued) task) head H;
                   serves = λ p.
                       heads-serves s (straightTo s c .head) (c .queued + 1) (set q′ (c .queued) task) head H p
@@ -125,6 +127,6 @@ module _ (s : Setup) (c : Cursor) (q : List ℕ) (K : Kept s c q) (q′ : List �
             shown = λ g d.
                 unfold opened in
                 ap (λ (x : List ℕ). with-queue s c x (set o task amount) g d)
-                (queueAt-joined s (c .head) (c .queued) q q′ room e task head (omega (arith, K .whole))
+                (queueAt-joined s (c .head) (c .queued) q q′ room e task head (omega (arith, K .tidy .whole))
                 (λ f. H .robin f ∙ rw f (cond-same (ltb 0 (c .queued + 1)) 0)));
           }

@@ -2,8 +2,8 @@
 use Prim.Native.Nat.{ℕ, _<_}
 use native.Mathlib.Omega.{arith}
 use mathlib.Core.Path.{_≡_, sym, ap, _∙_, subst}
-use mathlib.Core.List.{List, [], _∷_}
-use lib.ListN.{length, length-append}
+use mathlib.Core.List.{List}
+use lib.ListN.{length}
 use borrow.Author.Tests.{ne-eqb}
 use Rattle.lists.specs.Lists.{at}
 use Rattle.lists.proofs.Testing.{cond-false}
@@ -12,9 +12,8 @@ use Rattle.rule.specs.Calls.{moved, opened, requestRefusal}
 use Rattle.rule.specs.declared.Setup.{Setup}
 use Rattle.laws.specs.Sound.{Sound}
 use Rattle.laws.proofs.Refusals.{request-accepted}
-use Rattle.laws.proofs.Made.{queue-short, request-sound}
-use Rattle.requests.specs.Early.{earlyRefusal}
-use Rattle.requests.proofs.Early.{early-between, refusal-now, refusal-open, refusal-none}
+use Rattle.laws.proofs.Made.{request-sound, queue-room}
+use Rattle.requests.proofs.Early.{early, early-between, refusal-now, refusal-open, refusal-none}
 use Rattle.line.specs.Places.{queueAt}
 use Rattle.legs.specs.Parts.{parts, Kept}
 use Rattle.engine.specs.Inner.{Opens}
@@ -25,10 +24,7 @@ use Rattle.line.proofs.Queues.{queueAt-length}
 -- ---- what the request leaves
 
 module _ (s : State) (t k a : ℕ) where
-  abbrev early : ℕ
-  early = earlyRefusal (s .setup .count) (s .clock) t k a
-
-  asked-now : (early ≡ 0 → ⊥) → afterAsk s t k a ≡ s
+  asked-now : (early s t k a ≡ 0 → ⊥) → afterAsk s t k a ≡ s
   unfolding afterAsk
   asked-now h =
       let r = requestRefusal s t k a in
@@ -47,17 +43,17 @@ module _ (s : State) (t k a : ℕ) where
 -- ---- the promise
 
 pub asks-early : (s : Setup) (c : Cursor) (q : List ℕ) (before : State) (t k a n : ℕ) → Kept s c q → Sound before
-    → n ≡ earlyRefusal (before .setup .count) (before .clock) t k a → (n ≡ 0 → ⊥)
+    → n ≡ early before t k a → (n ≡ 0 → ⊥)
     → Asks s t k a (record { refusal = n; cursor = c }) q before before
 asks-early s c q before t k a n K S e h =
-    let h′ : earlyRefusal (before .setup .count) (before .clock) t k a ≡ 0 → ⊥ = λ z. h (e ∙ z) in
+    let h′ : early before t k a ≡ 0 → ⊥ = λ z. h (e ∙ z) in
     record {
       answer = e ∙ sym (refusal-now before t k a h′);
       left = record { kept = K; sound = S; shown = sym (asked-now before t k a h′) };
     }
 
 module _ (s : Setup) (before : State) (t k a : ℕ) (S : Sound before)
-    (e : earlyRefusal (before .setup .count) (before .clock) t k a ≡ 0) (c : Cursor) (q o g d : List ℕ)
+    (e : early before t k a ≡ 0) (c : Cursor) (q o g d : List ℕ)
     (R : Reached s c q (moved before t) (parts s c q o g d)) where
   owed-moved : at o k ≡ at (moved before t .owed) k
   owed-moved = ap (λ (x : State). at (x .owed) k) (R .shown)
@@ -80,13 +76,12 @@ module _ (s : Setup) (before : State) (t k a : ℕ) (S : Sound before)
         (request-sound before t k a S (request-accepted before t k a none))
 
     -- a task that is not open has a place in the queue's array
-    pub queue-room : c .queued < 32
-    unfolding opened
-    queue-room =
-        let p = queueAt s (c .head) (c .queued) q in
-        let l : length p ≡ c .queued =
-        queueAt-length s (c .head) (c .queued) q (omega (arith, R .kept .fits, R .kept .whole)) in
-        omega (arith, queue-short (opened (parts s c q o g d) k a) opened-sound, length-append p (k ∷ []))
+    pub asks-room : c .queued < 32
+    asks-room =
+        let l = queueAt-length s (c .head) (c .queued) q (omega (arith, R .kept .tidy .fits, R .kept .tidy .whole)) in
+        let m : length (queueAt s (c .head) (c .queued) q) ≡ length (moved before t .queue) =
+        ap (λ (x : State). length (x .queue)) (R .shown) in
+        omega (arith, queue-room before t k a S none)
 
     pub asks-taken : (r : Cursor) (q′ o′ : List ℕ) → Opens s c k a q o r q′ o′
         → Asks s t k a (record { refusal = 0; cursor = r }) q′ before (parts s r q′ o′ g d)

@@ -1,12 +1,11 @@
--- Moves of the clock on the parts: on the way to a time, and a drain as such a move. Assumes nothing.
+-- Moves of the clock on the parts, on the way to a time. Assumes nothing.
 use Prim.Native.Nat.{ℕ, _+_, _-_, _≤_, _<_}
 use native.Mathlib.Omega.{arith}
 use mathlib.Core.Path.{_≡_, sym, ap, _∙_, subst}
 use mathlib.Core.List.{List}
-use Rattle.lists.specs.Lists.{total}
 use Rattle.rule.specs.State.{State}
 use Rattle.rule.specs.Tick.{ticks}
-use Rattle.rule.specs.Calls.{moved, drained}
+use Rattle.rule.specs.Calls.{moved}
 use Rattle.rule.specs.declared.Setup.{Setup}
 use Rattle.laws.specs.Sound.{Sound}
 use Rattle.laws.proofs.Ticks.{ticks-zero, ticks-add}
@@ -60,10 +59,3 @@ module _ (time : ℕ) (s : Setup) (start : State) (c : Cursor) (q : List ℕ) wh
     going-end h =
         let e : now .clock - start .clock ≡ time - start .clock = omega (arith, G .until) in
         record { kept = G .kept; sound = G .sound; shown = G .shown ∙ ap (λ (k : ℕ). ticks k start) e }
-
--- a drain is a move by what is owed
-pub moved-drained : (s : State) → moved s (s .clock + total (s .owed)) ≡ drained s
-unfolding moved drained
-moved-drained s =
-    let e : s .clock + total (s .owed) - s .clock ≡ total (s .owed) = omega arith in
-    ap (λ (k : ℕ). ticks k s) e

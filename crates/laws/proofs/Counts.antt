@@ -7,7 +7,7 @@ use Rattle.rule.specs.State.{fresh}
 use Rattle.rule.specs.Tick.{chosen, overdue, headBack, turn, usedMore, give, rest, serve, tickOn, tick, ticks}
 use Rattle.rule.specs.Calls.{moved, opened, request, effect, requestRefusal, refusal, call}
 use Rattle.rule.specs.Cases.{robin}
-use Rattle.laws.specs.Backlog.{Ask, amounts, sumBy, sumOf, backlog, emptyTicks, asks, accepted}
+use Rattle.laws.specs.Backlog.{Ask, amountOf, sumBy, sumOf, backlog, emptyTicks, asks, accepted}
 
 abbrev ask : ℕ → ℕ → ℕ → Ask
 ask t k a = record { time = t; task = k; amount = a }
@@ -31,7 +31,7 @@ emptyTicks-F : map (emptyTicks runF) (0 ∷ 1 ∷ 2 ∷ 10 ∷ 12 ∷ 13 ∷ [])
 unfolding sumBy backlog emptyTicks
 emptyTicks-F = refl
 
-sumOf-A : map (sumOf amounts runA) (0 ∷ 1 ∷ 2 ∷ []) ≡ (5 ∷ 2 ∷ 0 ∷ [])
+sumOf-A : map (sumOf amountOf runA) (0 ∷ 1 ∷ 2 ∷ []) ≡ (5 ∷ 2 ∷ 0 ∷ [])
 unfolding sumBy
 sumOf-A = refl
 

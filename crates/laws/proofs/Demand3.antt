@@ -20,7 +20,7 @@ use Rattle.rule.specs.Calls.{moved, drained, opened, Call, request, advance, dr
 use Rattle.rule.specs.declared.Setup.{Setup}
 use Rattle.laws.specs.Sound.{Sound}
 use Rattle.laws.specs.Accepted.{Requested}
-use Rattle.laws.specs.Backlog.{Ask, times, tasks, amounts, sumBy, sumAt, sumOf, backlog, emptyTicks, asks}
+use Rattle.laws.specs.Backlog.{Ask, timeOf, taskOf, amountOf, sumBy, sumAt, backlog, emptyTicks, asks}
 use Rattle.laws.specs.Backlog.{accepted, Accounted}
 use Rattle.laws.proofs.Ticks.{moved-clock}
 use Rattle.laws.proofs.Served.{Served, ticked}
@@ -48,14 +48,14 @@ module _ (by f : Ask → ℕ) (l : List Ask) (q : Ask) (n : ℕ) where
 module _ (l : List Ask) (q : Ask) where
   backlog-before : (t : ℕ) → t < q .time → backlog (l ++ q ∷ []) t ≡ backlog l t
   unfolding backlog
-  backlog-before zero h = sumBy-other times amounts l q 0 (λ e. omega arith)
+  backlog-before zero h = sumBy-other timeOf amountOf l q 0 (λ e. omega arith)
   backlog-before (suc t) h =
-      omega (arith, backlog-before t (omega arith), sumBy-other times amounts l q (suc t) (λ e. omega arith))
+      omega (arith, backlog-before t (omega arith), sumBy-other timeOf amountOf l q (suc t) (λ e. omega arith))
 
   backlog-then : (t : ℕ) → t ≡ q .time → backlog (l ++ q ∷ []) t ≡ backlog l t + q .amount
   unfolding backlog
-  backlog-then zero e = sumBy-same times amounts l q 0 (sym e)
-  backlog-then (suc t) e = omega (arith, backlog-before t (omega arith), sumBy-same times amounts l q (suc t) (sym e))
+  backlog-then zero e = sumBy-same timeOf amountOf l q 0 (sym e)
+  backlog-then (suc t) e = omega (arith, backlog-before t (omega arith), sumBy-same timeOf amountOf l q (suc t) (sym e))
 
   empty-before : (t : ℕ) → t ≤ q .time → emptyTicks (l ++ q ∷ []) t ≡ emptyTicks l t
   unfolding emptyTicks
@@ -66,7 +66,7 @@ module _ (l : List Ask) (q : Ask) where
 
 -- ---- one tick on, where nothing is added at its end
 
-backlog-next : (l : List Ask) (t : ℕ) → sumAt amounts l (suc t) ≡ 0 → backlog l (suc t) ≡ backlog l t - 1
+backlog-next : (l : List Ask) (t : ℕ) → sumAt amountOf l (suc t) ≡ 0 → backlog l (suc t) ≡ backlog l t - 1
 unfolding backlog
 backlog-next l t e = omega arith
 
@@ -83,22 +83,23 @@ empty-same l t h = omega (arith, cond-false {A = ℕ} 1 0 (ne-eqb (backlog l t) 
 -- what is carried from call to call
 record Counted (l : List Ask) (s : State) : Type 0 where
   sound : Sound s
-  owed : total (s .owed) ≡ backlog l (s .clock)
-  idle : s .idle ≡ emptyTicks l (s .clock)
-  each : (k : ℕ) → sumOf amounts l k ≡ at (s .given) k + at (s .owed) k
-  none-later : (t : ℕ) → s .clock < t → sumAt amounts l t ≡ 0
+  counts : Accounted l s
+  none-later : (t : ℕ) → s .clock < t → sumAt amountOf l t ≡ 0
 
 rest-counted : (l : List Ask) (s : State) → s .queue ≡ [] → Counted l s → Sound (rest s 1) → Counted l (rest s 1)
 unfolding rest
 rest-counted l s e h g =
     let c : s .clock + 1 ≡ suc (s .clock) = add-one (s .clock) in
     let z : total (s .owed) ≡ 0 = none-owed s (h .sound) e in
-    let none : sumAt amounts l (suc (s .clock)) ≡ 0 = h .none-later (suc (s .clock)) (omega arith) in
+    let none : sumAt amountOf l (suc (s .clock)) ≡ 0 = h .none-later (suc (s .clock)) (omega arith) in
     record {
       sound = g;
-      owed = omega (arith, h .owed, ap (backlog l) c, backlog-next l (s .clock) none);
-      idle = omega (arith, h .idle, ap (emptyTicks l) c, empty-more l (s .clock) (omega (arith, h .owed)));
-      each = h .each;
+      counts =
+          record {
+            owed = omega (arith, h .counts .owed, ap (backlog l) c, backlog-next l (s .clock) none);
+            idle = omega (arith, h .counts .idle, ap (emptyTicks l) c, empty-more l (s .clock) (omega (arith, h .counts .owed)));
+            each = h .counts .each;
+          };
       none-later = λ t d. h .none-later t (omega arith);
     }
 
@@ -106,12 +107,15 @@ served-counted : (l : List Ask) (s r : State) (i : ℕ) → Served s r i → Cou
 served-counted l s r i v h g =
     let c : r .clock ≡ suc (s .clock) = omega (arith, v .clock) in
     let less : total (r .owed) + 1 ≡ total (s .owed) = owed-total s r i (h .sound) v in
-    let none : sumAt amounts l (suc (s .clock)) ≡ 0 = h .none-later (suc (s .clock)) (omega arith) in
+    let none : sumAt amountOf l (suc (s .clock)) ≡ 0 = h .none-later (suc (s .clock)) (omega arith) in
     record {
       sound = g;
-      owed = omega (arith, h .owed, ap (backlog l) c, backlog-next l (s .clock) none);
-      idle = omega (arith, h .idle, v .idle, ap (emptyTicks l) c, empty-same l (s .clock) (omega (arith, h .owed)));
-      each = λ k. omega (arith, h .each k, owed-at s r i (h .sound) v k, given-at s r i (h .sound) v k);
+      counts =
+          record {
+            owed = omega (arith, h .counts .owed, ap (backlog l) c, backlog-next l (s .clock) none);
+            idle = omega (arith, h .counts .idle, v .idle, ap (emptyTicks l) c, empty-same l (s .clock) (omega (arith, h .counts .owed)));
+            each = λ k. omega (arith, h .counts .each k, owed-at s r i (h .sound) v k, given-at s r i (h .sound) v k);
+          };
       none-later = λ t d. h .none-later t (omega arith);
     }
 
@@ -138,15 +142,18 @@ opened-counted l s t k a c i z h g =
     let inside : k < length (s .owed) = omega (arith, h .sound .owed32) in
     record {
       sound = g;
-      owed = omega (arith, h .owed, total-set (s .owed) k a inside, backlog-then l q (s .clock) c);
-      idle = omega (arith, h .idle, empty-before l q (s .clock) (omega arith));
-      each = λ j.
-          equal-or k j
-          (λ e. rw (← e)
-          (omega (arith, sumBy-same tasks amounts l q k refl, h .each k, at-set-same (s .owed) k a inside)))
-          (λ n.
-          omega (arith, sumBy-other tasks amounts l q j n, h .each j, at-set-other (s .owed) k a j (λ e. n (sym e))));
-      none-later = λ u d. omega (arith, sumBy-other times amounts l q u (λ e. omega arith), h .none-later u d);
+      counts =
+          record {
+            owed = omega (arith, h .counts .owed, total-set (s .owed) k a inside, backlog-then l q (s .clock) c);
+            idle = omega (arith, h .counts .idle, empty-before l q (s .clock) (omega arith));
+            each = λ j.
+                equal-or k j
+                (λ e. rw (← e)
+                (omega (arith, sumBy-same taskOf amountOf l q k refl, h .counts .each k, at-set-same (s .owed) k a inside)))
+                (λ n.
+                omega (arith, sumBy-other taskOf amountOf l q j n, h .counts .each j, at-set-other (s .owed) k a j (λ e. n (sym e))));
+          };
+      none-later = λ u d. omega (arith, sumBy-other timeOf amountOf l q u (λ e. omega arith), h .none-later u d);
     }
 
 request-counted : (l : List Ask) (s : State) (t k a : ℕ) → Requested s t k a → Counted l s
@@ -186,9 +193,12 @@ unfolding sumBy backlog emptyTicks total
 fresh-counted p e =
     record {
       sound = fresh-sound p e;
-      owed = refl;
-      idle = refl;
-      each = λ k. omega (arith, at-replicate 32 k);
+      counts =
+          record {
+            owed = refl;
+            idle = refl;
+            each = λ k. omega (arith, at-replicate 32 k);
+          };
       none-later = λ t d. refl;
     }
 
@@ -197,5 +207,4 @@ fresh-counted p e =
 pub demand3 : (p : Setup) → setupRefusal p ≡ 0 → (cs : List Call)
     → Accounted (accepted (fresh p) cs) (calls (fresh p) cs)
 demand3 p e cs =
-    let h = calls-counted [] (fresh p) cs (fresh-counted p e) in
-    record { owed = h .owed; idle = h .idle; each = h .each }
+    calls-counted [] (fresh p) cs (fresh-counted p e) .counts

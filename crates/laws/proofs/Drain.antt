@@ -4,12 +4,13 @@ use Prim.Native.Nat.{ℕ, zero, suc, _+_, _-_, _≤_, _<_}
 use native.Mathlib.Omega.{arith}
 use mathlib.Core.Path.{_≡_, ap, subst}
 use mathlib.Core.Logic.{_⊎_, inl, inr, ⊎-elim}
+use mathlib.Core.Bool.{cond}
 use mathlib.Core.List.{List, [], _∷_}
 use lib.Dec.{ltb, eqb}
 use borrow.Author.Tests.{eqb-true, ltb-false, lt-ltb}
 use Rattle.lists.specs.Lists.{at, total}
 use Rattle.lists.proofs.Testing.{tested, cond-true}
-use Rattle.lists.proofs.Totals.{at-le-total, total-le}
+use Rattle.lists.proofs.Totals.{at-le-total, total-some, total-le}
 use Rattle.rule.specs.State.{State, fresh}
 use Rattle.rule.specs.Tick.{rest, tick, ticks}
 use Rattle.rule.specs.Calls.{moved, drained, opened, lastTime, mostAmount, Call, request, advance, drain}
@@ -19,8 +20,8 @@ use Rattle.laws.specs.Drains.{Drains, lastClock}
 use Rattle.laws.proofs.Ticks.{moved-clock, drained-clock}
 use Rattle.laws.proofs.Served.{ticked}
 use Rattle.laws.proofs.Refusals.{request-accepted, advance-accepted}
-use Rattle.laws.proofs.Sound.{owed-total, tick-sound, ticks-sound}
-use Rattle.laws.proofs.Made.{none-owed, some-owed, call-sound, fresh-sound, made-sound}
+use Rattle.laws.proofs.Sound.{owed-total, tick-sound}
+use Rattle.laws.proofs.Made.{none-owed, call-sound, fresh-sound, made-sound}
 
 -- ---- ticks and what is owed
 
@@ -48,7 +49,7 @@ sound-drains s h =
     record {
       clock = drained-clock s;
       closed = λ k. omega (arith, at-le-total (drained s .owed) k, drained-owed s h);
-      first = λ n c. some-owed (ticks n s) (ticks-sound n s h) (omega (arith, ticks-owed n s h));
+      first = λ n c. total-some (ticks n s .owed) (omega (arith, ticks-owed n s h));
     }
 
 pub drains : (s : State) → Made s → Drains s
@@ -94,17 +95,19 @@ made-within s m =
 
 -- ---- "once the clock is above 4,000,000,000 every timed call is refused, by 10 or 11"
 
+late : (clock t m : ℕ) → lastTime < clock
+    → let n = cond (ltb lastTime t) 10 (cond (ltb t clock) 11 m) in (n ≡ 10) ⊎ (n ≡ 11)
+late clock t m h =
+    tested (ltb lastTime t)
+    (λ e. inl (rw e))
+    (λ e. inr (rw (e, lt-ltb t clock (omega (arith, ltb-false lastTime t e)))))
+
 pub late-request : (s : State) (t k a : ℕ) → lastTime < s .clock
     → (requestRefusal s t k a ≡ 10) ⊎ (requestRefusal s t k a ≡ 11)
 unfolding requestRefusal
-late-request s t k a h =
-    tested (ltb lastTime t)
-    (λ e. inl (rw e))
-    (λ e. inr (rw (e, lt-ltb t (s .clock) (omega (arith, ltb-false lastTime t e)))))
+late-request s t k a h = late (s .clock) t _ h
 
-pub late-advance : (s : State) (t : ℕ) → lastTime < s .clock → (advanceRefusal s t ≡ 10) ⊎ (advanceRefusal s t ≡ 11)
+pub late-advance : (s : State) (t : ℕ) → lastTime < s .clock
+    → (advanceRefusal (s .clock) t ≡ 10) ⊎ (advanceRefusal (s .clock) t ≡ 11)
 unfolding advanceRefusal
-late-advance s t h =
-    tested (ltb lastTime t)
-    (λ e. inl (rw e))
-    (λ e. inr (rw (e, lt-ltb t (s .clock) (omega (arith, ltb-false lastTime t e)))))
+late-advance s t h = late (s .clock) t 0 h

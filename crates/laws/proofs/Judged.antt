@@ -2,7 +2,7 @@
 -- does, and accepted where none holds. In order: lists of reasons, what the tests mean, the lists. Assumes nothing.
 use Prim.Native.Nat.{ℕ, suc, _+_, _-_, _≤_, _<_}
 use native.Mathlib.Omega.{arith}
-use mathlib.Core.Path.{_≡_, refl, sym, ap, _∙_}
+use mathlib.Core.Path.{_≡_, refl, sym, _∙_}
 use mathlib.Core.Logic.{_⊎_, inl, inr, ⊎-elim, _↔_}
 use mathlib.Core.Bool.{Bool, true, false, cond, not, _&&_, _||_, true≢false}
 use mathlib.Core.List.{List, [], _∷_, map}
@@ -12,18 +12,18 @@ use lib.Dec.{ltb, leb, eqb}
 use borrow.Author.Tests.{not-true, eqb-true, eqb-false, ltb-true, leb-true, leb-false, eq-eqb, ne-eqb, lt-ltb, le-leb}
 use Rattle.lists.specs.Lists.{at, within, zeros}
 use Rattle.lists.proofs.Testing.{tested, equal-or, cond-true, cond-false, within-below, within-above}
-use Rattle.lists.proofs.Zeros.{zeros-true, zeros-false}
+use Rattle.lists.proofs.Zeros.{zeros-false}
 use Rattle.rule.specs.Refusal.{Refusal, first}
-use Rattle.rule.specs.Setups.{isPriority, isRoundRobin, sliceFits, bytesFit, setupRefusal}
+use Rattle.rule.specs.Setups.{isPriority, isRoundRobin, mostSlice, sliceFits, bytesFit, setupRefusal}
 use Rattle.rule.specs.State.{State}
 use Rattle.rule.specs.Calls.{moved, Call, request, advance, drain, lastTime, mostAmount, advanceRefusal}
 use Rattle.rule.specs.Calls.{requestRefusal, refusal}
-use Rattle.rule.specs.Table.{columnRefusal, tableRefusal}
+use Rattle.rule.specs.Table.{mostRows, columnRefusal, tableRefusal}
 use Rattle.rule.specs.declared.Setup.{Setup}
 use Rattle.laws.specs.Accepted.{clearFrom}
 use Rattle.laws.specs.Reasons.{Reason, reason, Judged, PolicyUnknown, SliceUnfit, BytesUnfit, setupReasons}
 use Rattle.laws.specs.Reasons.{tableReasons, advanceReasons, requestReasons, reasons}
-use Rattle.laws.proofs.Refusals.{isPriority-true, isPriority-false}
+use Rattle.laws.proofs.Refusals.{isPriority-true, isPriority-false, clear-from}
 
 -- ---- lists of reasons
 
@@ -109,24 +109,16 @@ slice-unfit p h = (
       (λ f.
       let some : p .slice ≡ 0 → ⊥ = eqb-false (p .slice) 0 (not-true (eqb (p .slice) 0) (rw f at e)) in
       inl (eqb-true (p .policy) 1 f, omega arith))
-      (λ f. inr (robin p h f, outside 65_535 (p .slice) .0 (rw f at e))),
+      (λ f. inr (robin p h f, outside mostSlice (p .slice) .0 (rw f at e))),
   ⊎-elim
       (λ w. rw (isPriority-true p (w .0), ne-eqb (p .slice) 0 (λ z. omega (arith, w .1))))
-      (λ w. rw (isPriority-false p (w .0)) (outside 65_535 (p .slice) .1 (w .1))),
+      (λ w. rw (isPriority-false p (w .0)) (outside mostSlice (p .slice) .1 (w .1))),
 )
 
 -- a byte that must be 0 and is not
 bytes-not : (p : Setup) (i : ℕ) → clearFrom p ≤ i → 0 < at (p .priority) i
     → zeros (drop (clearFrom p) (p .priority)) ≡ true → ⊥
-bytes-not p i l some g =
-    let j : ℕ = i - clearFrom p in
-    let e : i ≡ clearFrom p + j = omega arith in
-    omega (
-      arith,
-      ap (at (p .priority)) e,
-      getD-drop (clearFrom p) (p .priority) j 0,
-      zeros-true (drop (clearFrom p) (p .priority)) j g,
-    )
+bytes-not p i l some g = omega (arith, clear-from p i g l)
 
 bytes-unfit : (p : Setup) → (not (bytesFit (p .policy) (p .count) (p .priority)) ≡ true) ↔ BytesUnfit p
 unfolding bytesFit
@@ -183,10 +175,10 @@ table-judged p times tasks amounts room n =
     (λ x2. judged-cons _ _ 3 _ n (slice-unfit p h)
     (λ x3. judged-cons _ _ 4 _ n (bytes-unfit p)
     (λ x4. judged-cons _ _ 20 _ n (unequal times tasks amounts)
-    (λ x5. judged-cons _ _ 21 _ n (less 1_024 times)
+    (λ x5. judged-cons _ _ 21 _ n (less mostRows times)
     (λ x6. judged-cons _ _ 22 _ n (less room times) (λ x7. judged-nil n))))))))
 
-pub advance-judged : (s : State) (t n : ℕ) → (advanceRefusal s t ≡ n) ↔ Judged (advanceReasons s t) n
+pub advance-judged : (s : State) (t n : ℕ) → (advanceRefusal (s .clock) t ≡ n) ↔ Judged (advanceReasons s t) n
 unfolding advanceRefusal
 advance-judged s t n =
     judged-cons _ _ 10 _ n (less lastTime t)

@@ -18,12 +18,8 @@ use Rattle.rule.specs.Setups.{isPriority}
 use Rattle.rule.specs.State.{State}
 use Rattle.rule.specs.Tick.{chosen, overdue, turn, usedMore, give, rest, serve, tickOn, tick, ticks}
 use Rattle.rule.specs.declared.Setup.{Setup}
-use Rattle.laws.specs.Sound.{Sound}
+use Rattle.laws.specs.Sound.{Sound, Room}
 use Rattle.laws.proofs.Served.{length-turn}
-
--- n more ticks fit into the slice
-abbrev pub Fits : State → ℕ → Type 0
-Fits s n = isPriority (s .setup) ≡ false → s .used + n ≤ s .setup .slice
 
 -- ---- idle ticks
 
@@ -78,9 +74,9 @@ give-queue : (s : State) (i m : ℕ) → m < at (s .owed) i → give s i m .queu
 unfolding give
 give-queue s i m h = simp (ne-eqb (at (s .owed) i) m (omega arith))
 
-give-fits : (s : State) (i m n : ℕ) → m < at (s .owed) i → Fits s (m + n) → Fits (give s i m) n
+give-room : (s : State) (i m n : ℕ) → m < at (s .owed) i → Room (s .setup) (s .used) (m + n) → Room (s .setup) (give s i m .used) n
 unfolding give
-give-fits s i m n h w e =
+give-room s i m n h w e =
     let u : give s i m .used ≡ s .used + m = simp (ne-eqb (at (s .owed) i) m (omega arith), usedMore-robin) in
     omega (arith, w e)
   where
@@ -89,13 +85,13 @@ give-fits s i m n h w e =
 
 -- ---- the turn
 
-turn-none : (s : State) → overdue s ≡ false → turn s ≡ s
+turn-none : (s : State) → overdue (s .setup) (s .used) ≡ false → turn s ≡ s
 unfolding turn
 turn-none s e = simp e
 
-fits-none : (s : State) → Fits s 1 → overdue s ≡ false
+room-none : (s : State) → Room (s .setup) (s .used) 1 → overdue (s .setup) (s .used) ≡ false
 unfolding overdue
-fits-none s w =
+room-none s w =
     tested (isPriority (s .setup))
     (λ e. simp e)
     (λ e. simp e (ne-eqb (s .used) (s .setup .slice) (omega (arith, w e))))
@@ -113,17 +109,17 @@ tick-served s h = on (s .queue) h
 module _ (s : State) (i : ℕ) (ho : i < length (s .owed)) (hg : i < length (s .given)) (some : 0 < length (s .queue))
     (serves : chosen (s .setup) (s .queue) ≡ i) where
   -- one tick more after m, of which none was the last
-  tick-give : (m : ℕ) → m < at (s .owed) i → Fits s (m + 1) → tick (give s i m) ≡ give s i (m + 1)
+  tick-give : (m : ℕ) → m < at (s .owed) i → Room (s .setup) (s .used) (m + 1) → tick (give s i m) ≡ give s i (m + 1)
   unfolding give serve
   tick-give m h w =
       let g = give s i m in
       let q : g .queue ≡ s .queue = give-queue s i m h in
       tick-served g (rw q some)
-      ∙ ap serve (turn-none g (fits-none g (give-fits s i m 1 h w)))
+      ∙ ap serve (turn-none g (room-none g (give-room s i m 1 h w)))
       ∙ ap (λ (k : ℕ). give g k 1) (ap (chosen (s .setup)) q ∙ serves)
       ∙ give-give s i m 1 ho hg h
 
-  ticks-give : (n m : ℕ) → 0 < m → m + n ≤ at (s .owed) i → Fits s (m + n) → ticks n (give s i m) ≡ give s i (m + n)
+  ticks-give : (n m : ℕ) → 0 < m → m + n ≤ at (s .owed) i → Room (s .setup) (s .used) (m + n) → ticks n (give s i m) ≡ give s i (m + n)
   unfolding ticks
   ticks-give zero m p h w = rw (add-zero m)
   ticks-give (suc n) m p h w =
@@ -136,7 +132,7 @@ next s = chosen (s .setup) (turn s .queue)
 
 -- n ticks are the turn and then one service, to the task that is chosen after the turn
 jump : (s : State) (n : ℕ) → 0 < length (s .queue) → next s < length (s .owed) → next s < length (s .given) → 0 < n
-    → n ≤ at (s .owed) (next s) → Fits (turn s) n → ticks n s ≡ give (turn s) (next s) n
+    → n ≤ at (s .owed) (next s) → Room (s .setup) (turn s .used) n → ticks n s ≡ give (turn s) (next s) n
 unfolding ticks turn serve
 jump s zero some ho hg p h w = absurd (not-suc-le-zero p)
 jump s (suc n) some ho hg p h w =
@@ -149,11 +145,11 @@ jump s (suc n) some ho hg p h w =
 
 -- t is s after the turn, and gives its chosen task i some ticks in a row: that is s as many ticks later
 pub ticks-jump : (s t : State) → Sound s → 0 < length (s .queue) → t ≡ turn s → (i n : ℕ)
-    → i ≡ chosen (t .setup) (t .queue) → 0 < n → n ≤ at (t .owed) i → Fits t n → ticks n s ≡ give t i n
+    → i ≡ chosen (t .setup) (t .queue) → 0 < n → n ≤ at (t .owed) i → Room (t .setup) (t .used) n → ticks n s ≡ give t i n
 ticks-jump s t S some e = subst Jumps (sym e) from-turn
   where
     Jumps : State → Type 0
-    Jumps t = (i n : ℕ) → i ≡ chosen (t .setup) (t .queue) → 0 < n → n ≤ at (t .owed) i → Fits t n
+    Jumps t = (i n : ℕ) → i ≡ chosen (t .setup) (t .queue) → 0 < n → n ≤ at (t .owed) i → Room (t .setup) (t .used) n
         → ticks n s ≡ give t i n
 
     from-turn : Jumps (turn s)

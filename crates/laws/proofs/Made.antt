@@ -6,18 +6,18 @@ use mathlib.Core.Path.{_≡_, refl, sym, ap, _∙_, subst}
 use mathlib.Core.Logic.{⊎-elim}
 use mathlib.Core.Bool.{false, true≢false}
 use mathlib.Core.List.{List, [], _∷_, _++_}
-use lib.ListN.{set, length, length-set}
+use lib.ListN.{set, length, length-set, length-append}
 use lib.Dec.{eqb}
 use borrow.Author.Tests.{eqb-true}
 use Rattle.lists.specs.Lists.{at, total, same, times}
 use Rattle.lists.proofs.Testing.{tested, equal-or}
-use Rattle.lists.proofs.Counting.{same-equal, same-other, times-nil, times-cons, times-head, times-append}
+use Rattle.lists.proofs.Counting.{same-equal, same-other, times-nil, times-cons, times-append}
 use Rattle.lists.proofs.Counting.{length-once}
 use Rattle.lists.proofs.Totals.{at-replicate, at-set-same, at-set-other, total-zero}
 use Rattle.rule.specs.Setups.{isPriority, setupRefusal}
 use Rattle.rule.specs.State.{State, fresh}
-use Rattle.rule.specs.Calls.{moved, opened, mostAmount, Call, request, advance, drain, refusal, effect, call, calls}
-use Rattle.rule.specs.Calls.{Made}
+use Rattle.rule.specs.Calls.{moved, opened, mostAmount, Call, request, advance, drain, requestRefusal, refusal}
+use Rattle.rule.specs.Calls.{effect, call, calls, Made}
 use Rattle.rule.specs.declared.Setup.{Setup}
 use Rattle.laws.specs.Sound.{Sliced, Sound}
 use Rattle.laws.specs.Accepted.{Taken, Requested}
@@ -27,17 +27,9 @@ use Rattle.laws.proofs.Sound.{moved-sound, drained-sound}
 
 -- ---- what is open
 
--- nothing is open exactly where nothing is owed
+-- where nothing is open nothing is owed
 pub none-owed : (s : State) → Sound s → s .queue ≡ [] → total (s .owed) ≡ 0
 none-owed s h e = total-zero (s .owed) (λ k. omega (arith, h .queued k, ap (times k) e, times-nil k))
-
--- somebody is owed a tick where the total is not 0
-pub some-owed : (s : State) → Sound s → 0 < total (s .owed) → (k : ℕ) × (0 < at (s .owed) k)
-some-owed s h n = go (s .queue) refl
-  where
-    go : (q : List ℕ) → s .queue ≡ q → (k : ℕ) × (0 < at (s .owed) k)
-    go [] e = absurd (omega (arith, none-owed s h e))
-    go (k ∷ ks) e = (k, omega (arith, h .queued k, ap (times k) e, times-head k ks))
 
 pub queue-short : (s : State) → Sound s → length (s .queue) ≤ 32
 queue-short s h =
@@ -78,6 +70,16 @@ pub request-sound : (s : State) (t k a : ℕ) → Sound s → Requested s t k a 
 request-sound s t k a h q =
     opened-sound (moved s t) k a (moved-sound s t h) (rw (moved-setup s t) (q .task)) (q .some) (q .few) (q .closed)
 
+-- a request that is accepted has a place in the queue's array
+pub queue-room : (s : State) (t k a : ℕ) → Sound s → requestRefusal s t k a ≡ 0 → length (moved s t .queue) < 32
+unfolding opened
+queue-room s t k a h e =
+    omega (
+      arith,
+      queue-short (opened (moved s t) k a) (request-sound s t k a h (request-accepted s t k a e)),
+      length-append (moved s t .queue) (k ∷ []),
+    )
+
 effect-sound : (s : State) (c : Call) → Sound s → refusal s c ≡ 0 → Sound (effect s c)
 unfolding effect refusal
 effect-sound s (request t k a) h e = request-sound s t k a h (request-accepted s t k a e)
@@ -102,7 +104,7 @@ taken-sliced : (p : Setup) → Taken p → isPriority p ≡ false → Sliced p 0
 taken-sliced p h e =
     ⊎-elim
     (λ f. absurd (true≢false (sym (isPriority-true p f) ∙ e)))
-    (λ f. record { some = h .sliced f .0; small = h .sliced f .1; inside = omega arith })
+    (λ f. record { some = h .sliced f .0; inside = omega arith })
     (h .policy)
 
 pub fresh-sound : (p : Setup) → setupRefusal p ≡ 0 → Sound (fresh p)

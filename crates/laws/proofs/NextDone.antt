@@ -11,10 +11,10 @@ use Rattle.lists.proofs.Testing.{tested, equal-or}
 use Rattle.lists.proofs.Totals.{at-inside, at-set-same, at-set-other}
 use Rattle.rule.specs.State.{State}
 use Rattle.rule.specs.Tick.{chosen, turn, give, ticks}
-use Rattle.laws.specs.Sound.{Sound}
+use Rattle.laws.specs.Sound.{Sound, Room}
 use Rattle.laws.specs.Next.{DoneNext}
 use Rattle.laws.proofs.Ticks.{ticks-clock, ticks-add}
-use Rattle.laws.proofs.Jump.{Fits, ticks-jump}
+use Rattle.laws.proofs.Jump.{ticks-jump}
 
 give-owed-same : (s : State) (i n : ℕ) → i < length (s .owed) → at (give s i n .owed) i ≡ at (s .owed) i - n
 unfolding give
@@ -26,7 +26,8 @@ give-owed-other s i n k e = at-set-other (s .owed) i (at (s .owed) i - n) k e
 
 -- t is s after the turn, and its chosen task i gets n ticks in a row
 module _ (s t : State) (S : Sound s) (some : 0 < length (s .queue)) (e : t ≡ turn s) (i n : ℕ)
-    (is : i ≡ chosen (t .setup) (t .queue)) (p : 0 < n) (h : n ≤ at (t .owed) i) (w : Fits t n) where
+    (is : i ≡ chosen (t .setup) (t .queue)) (p : 0 < n) (h : n ≤ at (t .owed) i)
+    (w : Room (t .setup) (t .used) n) where
   turned-owed : (k : ℕ) → at (t .owed) k ≡ at (s .owed) k
   turned-owed k = unfold turn in ap (λ (x : State). at (x .owed) k) e
 

@@ -47,14 +47,14 @@ length-headBack (h ∷ t) = omega (arith, length-append t (h ∷ []))
 pub times-turn : (s : State) (k : ℕ) → times k (turn s .queue) ≡ times k (s .queue)
 unfolding turn
 times-turn s k =
-    cond-both (λ (q : List ℕ). times k q ≡ times k (s .queue)) (overdue s) (headBack (s .queue)) (s .queue)
+    cond-both (λ (q : List ℕ). times k q ≡ times k (s .queue)) (overdue (s .setup) (s .used)) (headBack (s .queue)) (s .queue)
     (times-headBack k (s .queue))
     refl
 
 pub length-turn : (s : State) → length (turn s .queue) ≡ length (s .queue)
 unfolding turn
 length-turn s =
-    cond-both (λ (q : List ℕ). length q ≡ length (s .queue)) (overdue s) (headBack (s .queue)) (s .queue)
+    cond-both (λ (q : List ℕ). length q ≡ length (s .queue)) (overdue (s .setup) (s .used)) (headBack (s .queue)) (s .queue)
     (length-headBack (s .queue))
     refl
 
@@ -102,7 +102,7 @@ serves s h =
       setup = refl;
       clock = refl;
       idle = refl;
-      sliced = λ e u. record { some = u .some; small = u .small; inside = serve-used s i e u };
+      sliced = λ e u. record { some = u .some; inside = serve-used s i e u };
       queue = serve-queue s i;
       owed = refl;
       given = refl;

@@ -1,12 +1,12 @@
 -- What a table gives: a refusal before the rows, the first refused row, or the column and the end. In order: refusals
--- before the rows, rows, the outcome, the column, what an entry is. Assumes nothing.
+-- before the rows, the outcome, the column, what an entry is. Assumes nothing.
 use Prim.Native.Nat.{ℕ, zero, suc, _+_, _-_, _≤_, _<_}
 use native.Mathlib.Omega.{arith}
 use mathlib.Core.Path.{_≡_, refl, sym, ap, _∙_}
 use mathlib.Core.Logic.{_⊎_, inl, inr, ⊎-elim, _↔_}
 use mathlib.Core.List.{List, [], _∷_, _++_}
 use lib.Dec.{eqb}
-use lib.ListN.{length, take, drop, getD, length-append, length-drop, List·getD-append}
+use lib.ListN.{length, take, drop, length-append, length-drop, List·getD-append}
 use lib.Seq.{getD-drop, getD-append-add}
 use borrow.Author.Tests.{eqb-true, eqb-false, ltb-false, eq-eqb, le-ltb}
 use Rattle.lists.specs.Lists.{at}
@@ -15,8 +15,8 @@ use Rattle.lists.proofs.Totals.{at-set-same}
 use Rattle.rule.specs.Setups.{setupRefusal}
 use Rattle.rule.specs.State.{State, fresh}
 use Rattle.rule.specs.Calls.{moved, drained, opened, Call, request, refusal, effect, call, calls}
-use Rattle.rule.specs.Table.{Outcome, refused, finished, completions, unlessRefused, outcomeFrom, rows, columnRefusal}
-use Rattle.rule.specs.Table.{tableRefusal, tableFrom, table, written}
+use Rattle.rule.specs.Table.{Outcome, refused, finished, completions, unlessRefused, outcomeFrom, rows, mostRows}
+use Rattle.rule.specs.Table.{columnRefusal, tableRefusal, tableFrom, table, written}
 use Rattle.rule.specs.declared.Setup.{Setup}
 use Rattle.laws.specs.Sound.{Sound}
 use Rattle.laws.specs.Sequences.{AllAccepted}
@@ -43,7 +43,7 @@ table-tabled p times tasks amounts room e =
       setup = eqb-true (setupRefusal p) 0 f;
       tasks-equal = eqb-true tasks times (lengths .0);
       amounts-equal = eqb-true amounts times (lengths .1);
-      few = ltb-false 1_024 times (p2 .0);
+      few = ltb-false mostRows times (p2 .0);
       fits = ltb-false room times (p3 .0);
     })
     (λ f. absurd (eqb-false (setupRefusal p) 0 f (rw f at e)))
@@ -57,29 +57,10 @@ table-exact p times tasks amounts room = (
     eq-eqb (setupRefusal p) 0 (h .setup),
     eq-eqb tasks times (h .tasks-equal),
     eq-eqb amounts times (h .amounts-equal),
-    le-ltb 1_024 times (h .few),
+    le-ltb mostRows times (h .few),
     le-ltb room times (h .fits),
   ),
 )
-
--- ---- rows
-
-pub rows-length : (ts ks ms : List ℕ) → length ks ≡ length ts → length ms ≡ length ts
-    → length (rows ts ks ms) ≡ length ts
-unfolding rows
-rows-length [] ks ms e f = refl
-rows-length (t ∷ ts) [] ms e f = absurd (omega arith)
-rows-length (t ∷ ts) (k ∷ ks) [] e f = absurd (omega arith)
-rows-length (t ∷ ts) (k ∷ ks) (m ∷ ms) e f = ap suc (rows-length ts ks ms (omega arith) (omega arith))
-
-pub rows-at : (ts ks ms : List ℕ) (i : ℕ) (d : Call) → i < length (rows ts ks ms)
-    → getD (rows ts ks ms) i d ≡ request (at ts i) (at ks i) (at ms i)
-unfolding rows
-rows-at [] ks ms i d h = absurd (omega arith)
-rows-at (t ∷ ts) [] ms i d h = absurd (omega arith)
-rows-at (t ∷ ts) (k ∷ ks) [] i d h = absurd (omega arith)
-rows-at (t ∷ ts) (k ∷ ks) (m ∷ ms) zero d h = refl
-rows-at (t ∷ ts) (k ∷ ks) (m ∷ ms) (suc i) d h = rows-at ts ks ms i d (omega arith)
 
 -- ---- the outcome
 

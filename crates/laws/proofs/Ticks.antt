@@ -77,3 +77,8 @@ moved-moved s u t h g =
 pub drained-clock : (s : State) → drained s .clock ≡ s .clock + total (s .owed)
 unfolding drained
 drained-clock s = ticks-clock (total (s .owed)) s
+
+-- a drain is a move by what is owed
+pub moved-drained : (s : State) → moved s (s .clock + total (s .owed)) ≡ drained s
+unfolding moved drained
+moved-drained s = let e : s .clock + total (s .owed) - s .clock ≡ total (s .owed) = omega arith in rw e

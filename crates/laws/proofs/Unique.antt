@@ -1,5 +1,5 @@
 -- No two different outcomes satisfy a promise, and what the promises of single calls give for sequences of calls on
--- runs. In order: the shapes of promises, runs and their views, setups and calls, sequences. Assumes nothing.
+-- runs. In order: the shape of a promise, runs and their views, setups and calls, made runs, sequences. Assumes nothing.
 use Prim.Native.Nat.{ℕ, _-_}
 use native.Mathlib.Omega.{arith}
 use mathlib.Core.Path.{_≡_, refl, sym, ap, ap₂, _∙_, subst}
@@ -24,26 +24,12 @@ use Rattle.laws.proofs.Judged.{setup-judged, refusal-judged}
 use Rattle.laws.proofs.Made.{made-fresh, made-call}
 use Rattle.laws.proofs.Demand3.{demand3}
 
--- ---- the shapes of promises
-
--- the outcome is a value worked out from what was handed in
-pub by-value {ℓ} : {A : Type ℓ} (v : A) → Determined (λ (x : A). x ≡ v)
-by-value v x y p q = p ∙ sym q
+-- ---- the shape of a promise
 
 -- what is told of the outcome is, and g finds the outcome again
 pub by-inverse : {A B : Type 0} (f : A → B) (g : B → A) → ((x : A) → g (f x) ≡ x) → (b : B)
     → Determined (λ (x : A). f x ≡ b)
 by-inverse f g h b x y p q = sym (h x) ∙ ap g (p ∙ sym q) ∙ h y
-
--- a view of the outcome is, and the view is one to one on the outcomes that are good
-pub by-view {ℓ κ} : {A : Type ℓ} {B : Type ℓ} (see : A → B) (Good : A → Type κ)
-    → ((x y : A) → Good x → Good y → see x ≡ see y → x ≡ y) → (v : B) → Determined (λ (x : A). Good x × (see x ≡ v))
-by-view see Good one v x y p q = one x y (p .0) (q .0) (p .1 ∙ sym (q .1))
-
--- two parts of an outcome, each with its promise
-pub by-parts {ℓ κ} : {A B : Type ℓ} (P : A → Type κ) (Q : B → Type κ) → Determined P → Determined Q
-    → Determined (λ (x : A × B). P (x .0) × Q (x .1))
-by-parts P Q d e x y p q = λ i. (d (x .0) (y .0) (p .0) (q .0) i, e (x .1) (y .1) (p .1) (q .1) i)
 
 -- ---- runs and their views
 

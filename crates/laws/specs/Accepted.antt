@@ -6,7 +6,7 @@ use mathlib.Core.Logic.{_⊎_}
 use mathlib.Core.Bool.{cond}
 use lib.ListN.{length}
 use Rattle.lists.specs.Lists.{at}
-use Rattle.rule.specs.Setups.{isPriority}
+use Rattle.rule.specs.Setups.{isPriority, mostSlice}
 use Rattle.rule.specs.State.{State}
 use Rattle.rule.specs.Calls.{moved, lastTime, mostAmount}
 use Rattle.rule.specs.declared.Setup.{Setup}
@@ -21,7 +21,7 @@ pub record Taken (p : Setup) : Type 0 where
   pub some : 0 < p .count
   pub few : p .count ≤ 32
   pub unsliced : p .policy ≡ 1 → p .slice ≡ 0
-  pub sliced : p .policy ≡ 2 → (0 < p .slice) × (p .slice ≤ 65_535)
+  pub sliced : p .policy ≡ 2 → (0 < p .slice) × (p .slice ≤ mostSlice)
   pub bytes : length (p .priority) ≡ 32
   pub clear : (i : ℕ) → clearFrom p ≤ i → at (p .priority) i ≡ 0
 

@@ -18,14 +18,14 @@ pub record Ask : Type 0 where
 -- ---- sums over requests
 
 -- the numbers that a request has
-abbrev pub times : Ask → ℕ
-times q = q .time
+abbrev pub timeOf : Ask → ℕ
+timeOf q = q .time
 
-abbrev pub tasks : Ask → ℕ
-tasks q = q .task
+abbrev pub taskOf : Ask → ℕ
+taskOf q = q .task
 
-abbrev pub amounts : Ask → ℕ
-amounts q = q .amount
+abbrev pub amountOf : Ask → ℕ
+amountOf q = q .amount
 
 -- of the numbers f, over those requests whose number `by` is n
 unfoldable pub sumBy : (Ask → ℕ) → (Ask → ℕ) → List Ask → ℕ → ℕ
@@ -34,19 +34,19 @@ sumBy by f (q ∷ l) n = cond (eqb (by q) n) (f q) 0 + sumBy by f l n
 
 -- over those made at time t
 abbrev pub sumAt : (Ask → ℕ) → List Ask → ℕ → ℕ
-sumAt f l t = sumBy times f l t
+sumAt f l t = sumBy timeOf f l t
 
 -- over those of task k
 abbrev pub sumOf : (Ask → ℕ) → List Ask → ℕ → ℕ
-sumOf f l k = sumBy tasks f l k
+sumOf f l k = sumBy taskOf f l k
 
 -- ---- the backlog
 
 -- "it is built from the requests": that with which the tick from t to t + 1 begins is what the tick before left of
 -- it, and the amounts added at t
 unfoldable pub backlog : List Ask → ℕ → ℕ
-backlog l zero = sumAt amounts l zero
-backlog l (suc t) = backlog l t - 1 + sumAt amounts l (suc t)
+backlog l zero = sumAt amountOf l zero
+backlog l (suc t) = backlog l t - 1 + sumAt amountOf l (suc t)
 
 -- how many of the ticks up to t began with none
 unfoldable pub emptyTicks : List Ask → ℕ → ℕ
@@ -71,4 +71,4 @@ accepted s (c ∷ cs) = cond (eqb (refusal s c) 0) (asks s c) [] ++ accepted (ca
 pub record Accounted (l : List Ask) (s : State) : Type 0 where
   pub owed : total (s .owed) ≡ backlog l (s .clock)
   pub idle : s .idle ≡ emptyTicks l (s .clock)
-  pub each : (k : ℕ) → sumOf amounts l k ≡ at (s .given) k + at (s .owed) k
+  pub each : (k : ℕ) → sumOf amountOf l k ≡ at (s .given) k + at (s .owed) k

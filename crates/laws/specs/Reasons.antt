@@ -7,8 +7,10 @@ use mathlib.Core.Logic.{_⊎_}
 use mathlib.Core.List.{List, [], _∷_, _++_}
 use lib.ListN.{length}
 use Rattle.lists.specs.Lists.{at}
+use Rattle.rule.specs.Setups.{mostSlice}
 use Rattle.rule.specs.State.{State}
 use Rattle.rule.specs.Calls.{moved, lastTime, mostAmount, Call, request, advance, drain}
+use Rattle.rule.specs.Table.{mostRows}
 use Rattle.rule.specs.declared.Setup.{Setup}
 use Rattle.laws.specs.Accepted.{clearFrom}
 
@@ -35,7 +37,7 @@ PolicyUnknown p = (p .policy ≡ 1 → ⊥) × (p .policy ≡ 2 → ⊥)
 -- "slice not as the policy asks"
 abbrev pub SliceUnfit : Setup → Type 0
 SliceUnfit p =
-    ((p .policy ≡ 1) × (0 < p .slice)) ⊎ ((p .policy ≡ 2) × ((p .slice ≡ 0) ⊎ (65_535 < p .slice)))
+    ((p .policy ≡ 1) × (0 < p .slice)) ⊎ ((p .policy ≡ 2) × ((p .slice ≡ 0) ⊎ (mostSlice < p .slice)))
 
 -- "priorities not 32 bytes, or a byte not zero that must be"
 abbrev pub BytesUnfit : Setup → Type 0
@@ -55,7 +57,7 @@ abbrev pub tableReasons : Setup → ℕ → ℕ → ℕ → ℕ → List Reason
 tableReasons p times tasks amounts room =
     setupReasons p
     ++ (reason 20 ((tasks ≡ times → ⊥) ⊎ (amounts ≡ times → ⊥))
-    ∷ reason 21 (1_024 < times)
+    ∷ reason 21 (mostRows < times)
     ∷ reason 22 (room < times)
     ∷ [])
 

@@ -7,7 +7,7 @@ use lib.ListN.{length}
 use Rattle.rule.specs.Setups.{setupRefusal}
 use Rattle.rule.specs.State.{State, fresh}
 use Rattle.rule.specs.Calls.{drained, Call, refusal, calls}
-use Rattle.rule.specs.Table.{Outcome, refused, finished, completions}
+use Rattle.rule.specs.Table.{Outcome, refused, finished, completions, mostRows}
 use Rattle.rule.specs.declared.Setup.{Setup}
 use Rattle.laws.specs.Sequences.{AllAccepted}
 
@@ -16,7 +16,7 @@ pub record Tabled (p : Setup) (times tasks amounts room : ℕ) : Type 0 where
   pub setup : setupRefusal p ≡ 0
   pub tasks-equal : tasks ≡ times
   pub amounts-equal : amounts ≡ times
-  pub few : times ≤ 1_024
+  pub few : times ≤ mostRows
   pub fits : times ≤ room
 
 -- "the first such row": the call at place i, from 0, is refused with n, and all before it are accepted.

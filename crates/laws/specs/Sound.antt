@@ -12,8 +12,11 @@ use Rattle.rule.specs.declared.Setup.{Setup}
 -- round robin has a slice, of which at most all is used
 pub record Sliced (p : Setup) (used : ℕ) : Type 0 where
   pub some : 0 < p .slice
-  pub small : p .slice ≤ 65_535
   pub inside : used ≤ p .slice
+
+-- n more ticks fit into the slice
+abbrev pub Room : Setup → ℕ → ℕ → Type 0
+Room p used n = isPriority p ≡ false → used + n ≤ p .slice
 
 pub record Sound (s : State) : Type 0 where
   pub few : s .setup .count ≤ 32

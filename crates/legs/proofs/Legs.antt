@@ -48,7 +48,7 @@ module _ (n : ℕ) (q o : List ℕ) (l : n ≤ length q) (owing : (k : ℕ) → 
       omega arith)
 
 pub ready-owes : (s : Setup) (c : Cursor) (q o : List ℕ) → Ready s c q o → (h : ℕ) → h < c .queued → 0 < at o (at q h)
-ready-owes s c q o R = place-owed (c .queued) q o (omega (arith, R .kept .fits, R .kept .whole)) (R .owing)
+ready-owes s c q o R = place-owed (c .queued) q o (omega (arith, R .kept .tidy .fits, R .kept .tidy .whole)) (R .owing)
 
 -- ---- the parts of a sound state
 
@@ -63,16 +63,16 @@ module _ (s : Setup) (c : Cursor) (q o g d : List ℕ) (K : Kept s c q) (S : Sou
         kept = K;
         some = h;
         owed32 = S .owed32;
-        slice = λ e. (S .sliced e .some, S .sliced e .inside);
+        sliced = S .sliced;
         owing = λ k l. omega (arith, queueAt-times s k (c .head) (c .queued) q, S .queued k);
       }
 
   pub kept-tasks : Tasks q
   kept-tasks =
-      places-tasks (c .queued) q o (omega (arith, K .fits, K .whole))
+      places-tasks (c .queued) q o (omega (arith, K .tidy .fits, K .tidy .whole))
       (λ k l. omega (arith, queueAt-times s k (c .head) (c .queued) q, S .queued k))
       (S .owed32)
-      (K .clear)
+      (K .tidy .clear)
 
   -- ---- a row of ticks to one task
 
@@ -108,7 +108,7 @@ module _ (s : Setup) (c : Cursor) (q o g d : List ℕ) (K : Kept s c q) (S : Sou
     leg-chosen = L .task ∙ leg-kept .serves (omega (arith, leg-queued))
 
     pub parts-some : 0 < length (queueAt s (c .head) (c .queued) q)
-    parts-some = rw (queueAt-length s (c .head) (c .queued) q (omega (arith, K .fits, K .whole))) some
+    parts-some = rw (queueAt-length s (c .head) (c .queued) q (omega (arith, K .tidy .fits, K .tidy .whole))) some
 
     pub leg-ticks : give (parts s (l .cursor) q o g d) (l .task) (l .n) ≡ ticks (l .n) (parts s c q o g d)
     leg-ticks =
@@ -121,7 +121,7 @@ module _ (s : Setup) (c : Cursor) (q o g d : List ℕ) (K : Kept s c q) (S : Sou
     unfolding servedTo
     served-kept =
         let k = leg-kept in
-        record { fits = k .fits; whole = k .whole; clear = k .clear; inside = k .inside; serves = k .serves }
+        record { tidy = k .tidy; inside = k .inside; serves = k .serves }
 
     pub served-ticks : l .n < at o (l .task)
         → parts s (servedTo s (l .cursor) (l .n)) q (owedAfter l o) (givenAfter l g) d ≡ ticks (l .n) (parts s c q o g d)

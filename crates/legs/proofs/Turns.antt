@@ -12,8 +12,8 @@ use Rattle.rule.specs.Setups.{isPriority}
 use Rattle.rule.specs.Tick.{overdue, headBack, turn}
 use Rattle.rule.specs.declared.Setup.{Setup}
 use Rattle.line.specs.Places.{queueAt}
-use Rattle.legs.specs.Parts.{parts, Kept, due, sliceDue, nextPlace, turnedTo}
-use Rattle.legs.specs.Inner.{Room}
+use Rattle.laws.specs.Sound.{Sliced, Room}
+use Rattle.legs.specs.Parts.{parts, Kept, sliceDue, nextPlace, turnedTo}
 use Rattle.legs.specs.declared.Cursor.{Cursor}
 use Rattle.line.proofs.Rings.{ring-next}
 use Rattle.line.proofs.Queues.{queueAt-robin}
@@ -21,17 +21,19 @@ use Rattle.line.proofs.Heads.{chosen-robin}
 
 -- ---- when it comes
 
-pub due-robin : (s : Setup) (c : Cursor) → due s c ≡ true → isPriority s ≡ false
-due-robin s c e =
+pub overdue-robin : (s : Setup) (used : ℕ) → overdue s used ≡ true → isPriority s ≡ false
+unfolding overdue
+overdue-robin s used e =
     tested (isPriority s)
-    (λ f. absurd (false≢true (sym (cond-true false (eqb (c .used) (s .slice)) f) ∙ e)))
+    (λ f. absurd (false≢true (sym (cond-true false (eqb used (s .slice)) f) ∙ e)))
     (λ f. f)
 
 pub sliceDue-robin : (s : Setup) (c : Cursor) (limit : ℕ) → sliceDue s c limit ≡ true → isPriority s ≡ false
-sliceDue-robin s c limit e = due-robin s c (and-true (due s c) (leb (s .slice) limit) e .0)
+sliceDue-robin s c limit e =
+    overdue-robin s (c .used) (and-true (overdue s (c .used)) (leb (s .slice) limit) e .0)
 
 pub sliceDue-whole : (s : Setup) (c : Cursor) (limit : ℕ) → sliceDue s c limit ≡ true → s .slice ≤ limit
-sliceDue-whole s c limit e = leb-true (s .slice) limit (and-true (due s c) (leb (s .slice) limit) e .1)
+sliceDue-whole s c limit e = leb-true (s .slice) limit (and-true (overdue s (c .used)) (leb (s .slice) limit) e .1)
 
 -- ---- what it does
 
@@ -40,47 +42,45 @@ next-below h n false l = l
 next-below h n true l =
     tested (eqb (h + 1) n) (λ e. rw e (omega arith)) (λ e. rw e (omega (arith, eqb-false (h + 1) n e)))
 
-pub turned-room : (s : Setup) (c : Cursor) → (isPriority s ≡ false → (0 < s .slice) × (c .used ≤ s .slice))
+pub turned-room : (s : Setup) (c : Cursor) → (isPriority s ≡ false → Sliced s (c .used))
     → Room s (turnedTo s c .used) 1
-unfolding turnedTo
+unfolding overdue turnedTo
 turned-room s c h e =
     tested (eqb (c .used) (s .slice))
-    (λ f. rw (e, f) (omega (arith, h e .0)))
-    (λ f. rw (e, f) (omega (arith, h e .1, eqb-false (c .used) (s .slice) f)))
+    (λ f. rw (e, f) (omega (arith, h e .some)))
+    (λ f. rw (e, f) (omega (arith, h e .inside, eqb-false (c .used) (s .slice) f)))
 
 module _ (s : Setup) (c : Cursor) (q : List ℕ) (K : Kept s c q) (some : 0 < c .queued) where
   pub turned-some : turnedTo s c .head < c .queued
   unfolding turnedTo
-  turned-some = next-below (c .head) (c .queued) (due s c) (omega (arith, K .inside))
+  turned-some = next-below (c .head) (c .queued) (overdue s (c .used)) (omega (arith, K .inside))
 
   pub turned-kept : Kept s (turnedTo s c) q
   unfolding turnedTo
   turned-kept =
       record {
-        fits = K .fits;
-        whole = K .whole;
-        clear = K .clear;
+        tidy = K .tidy;
         inside = omega (arith, turned-some);
         serves = λ p.
-            tested (due s c)
+            tested (overdue s (c .used))
             (λ f.
-            sym (chosen-robin s (turnedTo s c .head) (c .queued) q (due-robin s c f) turned-some
-            (omega (arith, K .fits, K .whole))))
+            sym (chosen-robin s (turnedTo s c .head) (c .queued) q (overdue-robin s (c .used) f) turned-some
+            (omega (arith, K .tidy .fits, K .tidy .whole))))
             (λ f. rw f (K .serves p));
       }
 
   queue-turn : queueAt s (turnedTo s c .head) (c .queued) q
-      ≡ cond (due s c) (headBack (queueAt s (c .head) (c .queued) q)) (queueAt s (c .head) (c .queued) q)
+      ≡ cond (overdue s (c .used)) (headBack (queueAt s (c .head) (c .queued) q)) (queueAt s (c .head) (c .queued) q)
   unfolding turnedTo
   queue-turn =
       let h = c .head in
       let n = c .queued in
-      tested (due s c)
+      tested (overdue s (c .used))
       (λ f.
-      let e : isPriority s ≡ false = due-robin s c f in
+      let e : isPriority s ≡ false = overdue-robin s (c .used) f in
       ap (λ (x : ℕ). queueAt s x n q) (cond-true (nextPlace c) h f)
       ∙ queueAt-robin s (nextPlace c) n q e
-      ∙ sym (ring-next h n q (omega (arith, K .inside)) (omega (arith, K .fits, K .whole)))
+      ∙ sym (ring-next h n q (omega (arith, K .inside)) (omega (arith, K .tidy .fits, K .tidy .whole)))
       ∙ ap headBack (sym (queueAt-robin s h n q e))
       ∙ sym (cond-true (headBack (queueAt s h n q)) (queueAt s h n q) f))
       (λ f.
@@ -96,7 +96,7 @@ module _ (s : Setup) (c : Cursor) (q : List ℕ) (K : Kept s c q) (some : 0 < c 
         setup = s;
         clock = c .clock;
         idle = c .idle;
-        used = cond (due s c) 0 (c .used);
+        used = cond (overdue s (c .used)) 0 (c .used);
         queue = x;
         owed = o;
         given = g;

@@ -7,20 +7,17 @@ use lib.ListN.{length, take, set}
 use Rattle.lists.specs.Lists.{at, times}
 use Rattle.rule.specs.Setups.{isPriority}
 use Rattle.rule.specs.declared.Setup.{Setup}
+use Rattle.laws.specs.Sound.{Sliced, Room}
 use Rattle.legs.specs.Parts.{turnedTo, Kept}
 use Rattle.legs.specs.declared.Cursor.{Cursor}
 use Rattle.legs.specs.declared.Leg.{Leg}
-
--- n more ticks fit into the slice
-abbrev pub Room : Setup → ℕ → ℕ → Type 0
-Room s used n = isPriority s ≡ false → used + n ≤ s .slice
 
 -- Something is open, and what the next row of ticks reads of the parts.
 pub record Ready (s : Setup) (c : Cursor) (q o : List ℕ) : Type 0 where
   pub kept : Kept s c q
   pub some : 0 < c .queued
   pub owed32 : length o ≡ 32
-  pub slice : isPriority s ≡ false → (0 < s .slice) × (c .used ≤ s .slice)
+  pub sliced : isPriority s ≡ false → Sliced s (c .used)
   pub owing : (k : ℕ) → 0 < times k (take (c .queued) q) → 0 < at o k
 
 -- How many ticks a task may have in a row: some, no more than asked for, than owed, and than its slice has left.

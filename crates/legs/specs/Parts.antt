@@ -2,14 +2,13 @@
 -- and of the completions. In order: the state of the parts; the cursor's moves. Assumes nothing.
 use Prim.Native.Nat.{ℕ, _+_, _-_, _≤_, _<_}
 use mathlib.Core.Path.{_≡_}
-use mathlib.Core.Bool.{Bool, false, cond, _&&_}
+use mathlib.Core.Bool.{Bool, cond, _&&_}
 use mathlib.Core.List.{List}
-use lib.ListN.{length, drop, replicate}
 use lib.Dec.{eqb, leb}
 use Rattle.lists.specs.Lists.{at}
-use Rattle.rule.specs.Setups.{isPriority}
 use Rattle.rule.specs.State.{State}
-use Rattle.rule.specs.Tick.{chosen, usedMore}
+use Rattle.rule.specs.Tick.{chosen, overdue, usedMore}
+use Rattle.rule.specs.View.{Clear}
 use Rattle.rule.specs.declared.Setup.{Setup}
 use Rattle.line.specs.Places.{queueAt}
 use Rattle.legs.specs.declared.Cursor.{Cursor}
@@ -31,21 +30,15 @@ parts s c q o g d =
 
 -- What the parts keep besides: the array holds 0 behind the queue, and the task that is served stands at the head.
 pub record Kept (s : Setup) (c : Cursor) (q : List ℕ) : Type 0 where
-  pub fits : c .queued ≤ 32
-  pub whole : length q ≡ 32
-  pub clear : drop (c .queued) q ≡ replicate (32 - c .queued) 0
+  pub tidy : Clear (c .queued) q
   pub inside : c .head ≤ c .queued - 1
   pub serves : 0 < c .queued → at q (c .head) ≡ chosen s (queueAt s (c .head) (c .queued) q)
 
 -- ---- the cursor's moves
 
--- "if the used count equals the slice length, the head moves to the back"
-abbrev pub due : Setup → Cursor → Bool
-due s c = cond (isPriority s) false (eqb (c .used) (s .slice))
-
--- such a turn, to which the limit leaves a whole slice
+-- a turn comes, and the limit leaves it a whole slice
 abbrev pub sliceDue : Setup → Cursor → ℕ → Bool
-sliceDue s c limit = due s c && leb (s .slice) limit
+sliceDue s c limit = overdue s (c .used) && leb (s .slice) limit
 
 abbrev pub nextPlace : Cursor → ℕ
 nextPlace c = cond (eqb (c .head + 1) (c .queued)) 0 (c .head + 1)
@@ -55,9 +48,9 @@ turnedTo s c =
     record {
       clock = c .clock;
       idle = c .idle;
-      used = cond (due s c) 0 (c .used);
+      used = cond (overdue s (c .used)) 0 (c .used);
       queued = c .queued;
-      head = cond (due s c) (nextPlace c) (c .head);
+      head = cond (overdue s (c .used)) (nextPlace c) (c .head);
     }
 
 -- n ticks to the head, of which none is the last that it is owed

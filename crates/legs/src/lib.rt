@@ -2,10 +2,11 @@
 // ticks, the cursor after ticks.
 use rule::Setup;
 ghost use mathlib.Core.Path.{_≡_};
-ghost use Prim.Native.Nat.{ℕ, _+_, _≤_, _<_, _^_};
+ghost use Prim.Native.Nat.{_+_, _≤_, _<_, _^_};
 ghost use Rattle.rule.specs.Tick.{usedMore};
+ghost use Rattle.laws.specs.Sound.{Room};
 ghost use Rattle.legs.specs.Parts.{turnedTo, sliceDue, servedTo, restedTo};
-ghost use Rattle.legs.specs.Inner.{Room, Ready, AtOnce, Leads};
+ghost use Rattle.legs.specs.Inner.{Ready, AtOnce, Leads};
 
 // The small numbers of a run, which a move of the clock keeps in registers. The head is the place of the task that is
 // served. The idle ticks are as wide as the places so that no byte of the struct is padding: with padding a step under

@@ -3,10 +3,11 @@ use rule::Setup;
 ghost use mathlib.Core.Path.{_≡_};
 ghost use mathlib.Core.Bool.{true, cond};
 ghost use mathlib.Core.List.{_++_};
-ghost use Prim.Native.Nat.{ℕ, _+_, _-_, _≤_, _<_};
+ghost use Prim.Native.Nat.{_+_, _≤_, _<_};
 ghost use lib.Dec.{ltb};
-ghost use lib.ListN.{length, drop, replicate};
+ghost use lib.ListN.{length, drop};
 ghost use lib.Seq.{paste};
+ghost use Rattle.rule.specs.View.{Clear};
 ghost use Rattle.line.specs.Places.{ring, takenOut, Tasks, Best, Heads};
 
 // A stretch of q is put into an array.
@@ -37,9 +38,8 @@ pub fn straight(q: [u8; 32], head: usize, n: usize) -> [u8; 32]
 
 // The task at a place leaves, and those of the n tasks that are behind it move up.
 pub fn take_out(queue: &mut [u8; 32], place: usize, n: usize)
-    requires { ⌜ length (now queue) ≡ 32 ⌝ }
-    requires { ⌜ (place < n) × (n ≤ 32) ⌝ }
-    requires { ⌜ drop n (now queue) ≡ replicate (32 - n) 0 ⌝ }
+    requires { ⌜ place < n ⌝ }
+    requires { ⌜ Clear n (now queue) ⌝ }
     ensures { λ r. ⌜ now (queue .exit) ≡ takenOut place (now (queue .entry)) ⌝ }
 {
     let last = n - 1;

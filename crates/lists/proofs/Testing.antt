@@ -37,7 +37,7 @@ pub cond-both {ℓ κ} : {A : Type ℓ} (P : A → Type κ) (b : Bool) (x y : A)
 cond-both P true x y p q = p
 cond-both P false x y p q = q
 
--- ---- conjunctions and disjunctions
+-- ---- conjunctions
 
 pub and-true : (a b : Bool) → (a && b) ≡ true → (a ≡ true) × (b ≡ true)
 and-true true b e = (refl, e)

@@ -46,6 +46,13 @@ unfolding total
 total-zero [] h = refl
 total-zero (x ∷ xs) h = omega (arith, h 0, total-zero xs (λ k. h (suc k)))
 
+-- an entry of a list whose sum is not 0 is not 0 either
+pub total-some : (l : List ℕ) → 0 < total l → (k : ℕ) × (0 < at l k)
+unfolding total
+total-some [] h = absurd (omega arith)
+total-some (zero ∷ xs) h = let w = total-some xs (omega arith) in (suc (w .0), w .1)
+total-some (suc x ∷ xs) h = (0, omega arith)
+
 pub total-le : (l : List ℕ) (m : ℕ) → ((k : ℕ) → at l k ≤ m) → total l ≤ length l * m
 unfolding total
 total-le [] m h = omega arith

@@ -3,17 +3,17 @@
 use Prim.Native.Nat.{ℕ, zero, suc, _+_, _*_, _-_, _/_, _%_, _≤_, _<_}
 use native.Mathlib.Omega.{arith}
 use mathlib.Core.Path.{_≡_, refl, sym, ap, _∙_}
-use mathlib.Core.List.{List, [], _∷_, _++_}
+use mathlib.Core.List.{List, _++_}
 use lib.ListN.{length, getD, drop, length-append, List·getD-append, List·getD-eq-default}
 use lib.Seq.{getD-append-add}
 use lib.Dec.{ltb}
-use borrow.Author.Tests.{ltb-true, ltb-false, lt-ltb, le-ltb, eq-eqb}
+use borrow.Author.Tests.{ltb-true, ltb-false, lt-ltb, le-ltb}
 use Rattle.lists.specs.Lists.{at}
 use Rattle.lists.proofs.Testing.{tested, equal-or}
 use Rattle.words.specs.Words.{word}
 use Rattle.words.proofs.Words.{word-drop}
 use Rattle.rule.specs.Calls.{Call, request}
-use Rattle.rule.specs.Table.{rows, columnRefusal}
+use Rattle.rule.proofs.Table.{length-rows, at-rows}
 use Rattle.judging.specs.Blocks.{blocks, block, count, recordsTo}
 use Rattle.judging.specs.Log.{Reads}
 use Rattle.log.specs.Records.{entries, columnFrom, column, askedTimes, rowList, rowAt, found}
@@ -130,15 +130,15 @@ module _ (log : List ℕ) (r : Reads log) where
       rw s
       (omega (arith, length-column w log r, accepted-last log r h, word-block log (blocks log - 1) 4 (omega arith)))
 
-  same-length : (w : ℕ) → length (column w log) ≡ length (askedTimes log)
-  same-length w = length-column w log r ∙ sym (length-column 0 log r)
+  pub column-same : (v w : ℕ) → length (column v log) ≡ length (column w log)
+  column-same v w = length-column v log r ∙ sym (length-column w log r)
 
   pub row-past : (i : ℕ) → length (askedTimes log) ≤ i → record { time = 0; task = 0; amount = 0 } ≡ rowAt log i
   row-past i h =
       rw (
-        List·getD-eq-default (column 0 log) 0 {n = i} (omega (arith, same-length 0)),
-        List·getD-eq-default (column 1 log) 0 {n = i} (omega (arith, same-length 1)),
-        List·getD-eq-default (column 2 log) 0 {n = i} (omega (arith, same-length 2)),
+        List·getD-eq-default (column 0 log) 0 {n = i} (omega (arith, column-same 0 0)),
+        List·getD-eq-default (column 1 log) 0 {n = i} (omega (arith, column-same 1 0)),
+        List·getD-eq-default (column 2 log) 0 {n = i} (omega (arith, column-same 2 0)),
       )
 
   -- the row's place
@@ -153,8 +153,8 @@ module _ (log : List ℕ) (r : Reads log) where
   row-here i t k m h et ek em =
       rw (
         et ∙ ap (word log) (omega arith) ∙ sym (at-column 0 (omega arith) log r i h),
-        ek ∙ sym (at-column 1 (omega arith) log r i (omega (arith, same-length 1))),
-        em ∙ sym (at-column 2 (omega arith) log r i (omega (arith, same-length 2))),
+        ek ∙ sym (at-column 1 (omega arith) log r i (omega (arith, column-same 1 0))),
+        em ∙ sym (at-column 2 (omega arith) log r i (omega (arith, column-same 2 0))),
       )
 
 pub found-row : (log : List ℕ) (i : ℕ) → i < length (askedTimes log) → Row (rowAt log i) ≡ found log i
@@ -167,38 +167,11 @@ found-none log i h = rw (le-ltb i (length (askedTimes log)) h)
 
 -- ---- the rows as the table takes them
 
-rows-length : (ts ks ms : List ℕ) → length ks ≡ length ts → length ms ≡ length ts → length (rows ts ks ms) ≡ length ts
-unfolding rows
-rows-length [] ks ms p q = refl
-rows-length (t ∷ ts) [] ms p q = absurd (omega arith)
-rows-length (t ∷ ts) (k ∷ ks) [] p q = absurd (omega arith)
-rows-length (t ∷ ts) (k ∷ ks) (m ∷ ms) p q = ap suc (rows-length ts ks ms (omega arith) (omega arith))
-
-rows-at : (ts ks ms : List ℕ) (i : ℕ) (d : Call) → length ks ≡ length ts → length ms ≡ length ts → i < length ts
-    → getD (rows ts ks ms) i d ≡ request (at ts i) (at ks i) (at ms i)
-unfolding rows
-rows-at [] ks ms i d p q h = absurd (omega arith)
-rows-at (t ∷ ts) [] ms i d p q h = absurd (omega arith)
-rows-at (t ∷ ts) (k ∷ ks) [] i d p q h = absurd (omega arith)
-rows-at (t ∷ ts) (k ∷ ks) (m ∷ ms) zero d p q h = refl
-rows-at (t ∷ ts) (k ∷ ks) (m ∷ ms) (suc i) d p q h = rows-at ts ks ms i d (omega arith) (omega arith) (omega arith)
-
 module _ (log : List ℕ) (r : Reads log) where
   pub row-list-length : length (rowList log) ≡ length (askedTimes log)
-  row-list-length = rows-length (column 0 log) (column 1 log) (column 2 log) (same-length log r 1) (same-length log r 2)
+  row-list-length =
+      length-rows (column 0 log) (column 1 log) (column 2 log) (column-same log r 1 0) (column-same log r 2 0)
 
   pub row-list-at : (i : ℕ) (d : Call) → i < length (askedTimes log)
       → getD (rowList log) i d ≡ request (rowAt log i .time) (rowAt log i .task) (rowAt log i .amount)
-  row-list-at i d h =
-      rows-at (column 0 log) (column 1 log) (column 2 log) i d (same-length log r 1) (same-length log r 2) h
-
-  -- "equally long, at most 1,024 rows": a log's table is refused neither 20 nor 21
-  pub columns-fit : columnRefusal (length (column 0 log)) (length (column 1 log)) (length (column 2 log)) 1_024 ≡ 0
-  unfolding columnRefusal
-  columns-fit =
-      let few = column-most 0 log r in
-      rw (
-        eq-eqb (length (column 1 log)) (length (column 0 log)) (same-length log r 1),
-        eq-eqb (length (column 2 log)) (length (column 0 log)) (same-length log r 2),
-        le-ltb 1_024 (length (column 0 log)) few,
-      )
+  row-list-at i d h = at-rows (column 0 log) (column 1 log) (column 2 log) i d (omega (arith, row-list-length))

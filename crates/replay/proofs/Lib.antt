@@ -1,4 +1,3 @@
-pub mod Starting
 pub mod Calling
 pub mod Opening
 pub mod Unique

@@ -4,8 +4,8 @@ use Prim.Native.Nat.{ℕ, _+_, _<_}
 use native.Mathlib.Omega.{arith}
 use native.Mathlib.Numerals.{add-one}
 use mathlib.Core.Path.{_≡_, sym, ap, _∙_}
-use mathlib.Core.List.{List, [], _∷_}
-use lib.ListN.{length, set, take, length-set, length-append}
+use mathlib.Core.List.{List}
+use lib.ListN.{length, set, take, length-set}
 use lib.Seq.{length-take-le, take-suc-set}
 use Rattle.lists.specs.Lists.{at}
 use Rattle.rule.specs.State.{State}
@@ -13,8 +13,7 @@ use Rattle.rule.specs.Calls.{moved, opened, request, refusal, effect}
 use Rattle.rule.specs.View.{view, Tidy, Shows}
 use Rattle.rule.specs.declared.Run.{Run}
 use Rattle.laws.specs.Sound.{Sound}
-use Rattle.laws.proofs.Refusals.{request-accepted}
-use Rattle.laws.proofs.Made.{queue-short, request-sound}
+use Rattle.laws.proofs.Made.{queue-room}
 use Rattle.line.proofs.Rings.{clear-set}
 use Rattle.requests.specs.Early.{earlyRefusal}
 use Rattle.requests.proofs.Early.{refusal-now, refusal-open, refusal-none}
@@ -80,26 +79,19 @@ module _ (s : State) (t k a : ℕ) (e : earlyRefusal (s .setup .count) (s .clock
   unfolding refusal
   open-number h = sym (refusal-open s t k a e (omega (arith, owed-moved)))
 
-  pub taken-number : at (r .owed) k ≡ 0 → 0 ≡ refusal s (request t k a)
+  pub taken-number : at (r .owed) k ≡ 0 → refusal s (request t k a) ≡ 0
   unfolding refusal
-  taken-number z = sym (refusal-none s t k a e (sym owed-moved ∙ z))
+  taken-number z = refusal-none s t k a e (sym owed-moved ∙ z)
 
   -- ---- what it leaves
 
   -- a task that is not open has a place in the queue's array
   pub taken-room : Sound s → at (r .owed) k ≡ 0 → r .queued < 32
-  unfolding opened
   taken-room S z =
-      let q = take (r .queued) (r .queue) in
-      let f = R .tidy in
-      let l : length q ≡ r .queued = length-take-le (r .queued) (r .queue) (omega (arith, f .fits, f .whole)) in
-      let m : length q ≡ length (moved s t .queue) = ap (λ (x : State). length (x .queue)) (R .shown) in
-      let n = refusal-none s t k a e (sym owed-moved ∙ z) in
-      omega (
-        arith,
-        queue-short (opened (moved s t) k a) (request-sound s t k a S (request-accepted s t k a n)),
-        length-append (moved s t .queue) (k ∷ []),
-      )
+      let l = length-take-le (r .queued) (r .queue) (omega (arith, R .tidy .fits, R .tidy .whole)) in
+      let m : length (take (r .queued) (r .queue)) ≡ length (moved s t .queue) =
+      ap (λ (x : State). length (x .queue)) (R .shown) in
+      omega (arith, queue-room s t k a S (refusal-none s t k a e (sym owed-moved ∙ z)))
 
   pub taken-shows : (after : Run) → Shows after (opened (view r) k a) → Shows after (effect s (request t k a))
   unfolding effect

@@ -2,16 +2,16 @@
 use Prim.Native.Nat.{ℕ, _+_, _≤_, _<_, zero-le}
 use native.Mathlib.Omega.{arith}
 use native.Mathlib.Numerals.{add-one}
-use mathlib.Core.Path.{_≡_, refl, sym, ap, _∙_}
+use mathlib.Core.Path.{_≡_, refl, ap, _∙_}
 use mathlib.Core.List.{List}
 use lib.ListN.{length, take, set, length-set}
 use lib.Seq.{take-suc, take-suc-set, take-all}
 use borrow.Author.Tests.{lt-ltb}
 use Rattle.lists.specs.Lists.{at}
 use Rattle.judging.specs.Log.{Reads}
-use Rattle.log.specs.Records.{askedTimes, askedTasks, askedAmounts, column, rowAt, found}
+use Rattle.log.specs.Records.{askedTimes, askedTasks, askedAmounts, rowAt, found}
 use Rattle.log.specs.declared.Record.{Record}
-use Rattle.log.proofs.Rows.{length-column, column-most}
+use Rattle.log.proofs.Rows.{column-most, column-same}
 use Rattle.places.specs.Places.{rowNumber, takenAt, PlaceOf}
 use Rattle.places.specs.declared.Taken.{Taken}
 use Rattle.places.proofs.Places.{first-reached, Taking, taking}
@@ -21,10 +21,6 @@ use Rattle.report.specs.Filled.{recordIn, Roomy, Filled, AllFilled}
 take-more : (copy l : List ℕ) (i v : ℕ) → i < length copy → i < length l → v ≡ at l i → take i copy ≡ take i l
     → take (i + 1) (set copy i v) ≡ take (i + 1) l
 take-more copy l i v h g e f = rw (add-one, take-suc-set copy i v h, take-suc l i 0 g, f, e)
-
--- the columns of a log that reads are of one length
-pub column-same : (log : List ℕ) → Reads log → (w : ℕ) → length (column w log) ≡ length (askedTimes log)
-column-same log h w = length-column w log h ∙ sym (length-column 0 log h)
 
 -- before row i, at its place in the log
 pub record Going (log : List ℕ) (n block place i : ℕ) (times tasks amounts : List ℕ) : Type 0 where
@@ -60,10 +56,10 @@ module _ (log : List ℕ) (h : Reads log) where
             (ap (λ (x : Record). x .time) e) (f .times-same);
         tasks-same =
             take-more tasks (askedTasks log) i (row .task) (omega (arith, r .tasks-room))
-            (omega (arith, column-same log h 1)) (ap (λ (x : Record). x .task) e) (f .tasks-same);
+            (omega (arith, column-same log h 1 0)) (ap (λ (x : Record). x .task) e) (f .tasks-same);
         amounts-same =
             take-more amounts (askedAmounts log) i (row .amount) (omega (arith, r .amounts-room))
-            (omega (arith, column-same log h 2)) (ap (λ (x : Record). x .amount) e) (f .amounts-same);
+            (omega (arith, column-same log h 2 0)) (ap (λ (x : Record). x .amount) e) (f .amounts-same);
       }
 
   pub filled-all : {times tasks amounts : List ℕ} {i : ℕ} → length (askedTimes log) ≤ i
@@ -73,8 +69,8 @@ module _ (log : List ℕ) (h : Reads log) where
       record {
         roomy = f .roomy;
         times-same = rw (← e) (f .times-same ∙ take-all i (askedTimes log) g);
-        tasks-same = rw (← e) (f .tasks-same ∙ take-all i (askedTasks log) (omega (arith, column-same log h 1)));
-        amounts-same = rw (← e) (f .amounts-same ∙ take-all i (askedAmounts log) (omega (arith, column-same log h 2)));
+        tasks-same = rw (← e) (f .tasks-same ∙ take-all i (askedTasks log) (omega (arith, column-same log h 1 0)));
+        amounts-same = rw (← e) (f .amounts-same ∙ take-all i (askedAmounts log) (omega (arith, column-same log h 2 0)));
       }
 
   -- ---- record by record

@@ -9,11 +9,10 @@ use Rattle.laws.specs.Rows.{Tabled}
 use Rattle.judging.specs.Log.{refused, judged, Reads}
 use Rattle.log.specs.Records.{setupOf, askedTimes, askedTasks, askedAmounts}
 use Rattle.log.proofs.Setups.{accepted-setup}
-use Rattle.log.proofs.Rows.{column-most}
+use Rattle.log.proofs.Rows.{column-most, column-same}
 use Rattle.text.specs.Text.{refusedLine}
 use Rattle.report.specs.Filled.{AllFilled}
 use Rattle.report.specs.Report.{logOutcome, rowsPrinted, printed, reportText}
-use Rattle.report.proofs.Filling.{column-same}
 
 -- ---- a log that reads
 
@@ -25,8 +24,8 @@ module _ (log : List ℕ) (h : Reads log) where
         rw (ep, et, ek, em)
         record {
           setup = accepted-setup log h;
-          tasks-equal = column-same log h 1;
-          amounts-equal = column-same log h 2;
+          tasks-equal = column-same log h 1 0;
+          amounts-equal = column-same log h 2 0;
           few = column-most 0 log h;
           fits = column-most 0 log h;
         }

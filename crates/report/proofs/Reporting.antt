@@ -14,7 +14,8 @@ use Rattle.rule.specs.Table.{Outcome, refused, finished, completions, outcomeFr
 use Rattle.rule.specs.Table.{rows, tableFrom, table, written}
 use Rattle.rule.specs.declared.Setup.{Setup}
 use Rattle.laws.specs.Rows.{Tabled}
-use Rattle.laws.proofs.Tables.{calls-outcome, completions-length, rows-length, table-exact}
+use Rattle.rule.proofs.Table.{length-rows}
+use Rattle.laws.proofs.Tables.{calls-outcome, completions-length, table-exact}
 use Rattle.table.specs.Answers.{Answers, answerOf}
 use Rattle.table.specs.declared.TableAnswer.{TableAnswer}
 use Rattle.table.specs.declared.TableAnswer.the-variants.{Finished, Refused}
@@ -42,7 +43,7 @@ module _ (p : Setup) (ts ks ms : List ℕ) (tabled : Tabled p (length ts) (lengt
       let same : completions (fresh p) (rows ts ks ms) ≡ ds = first (w .1) in
       ap length (sym same)
       ∙ completions-length (fresh p) ts ks ms
-      ∙ rows-length ts ks ms (tabled .tasks-equal) (tabled .amounts-equal))
+      ∙ length-rows ts ks ms (tabled .tasks-equal) (tabled .amounts-equal))
       (λ w. absurd (other (w .3)))
       (calls-outcome (fresh p) (rows ts ks ms))
     where

@@ -1,5 +1,5 @@
--- The refusals of a request that are judged before the clock moves, beside the one after it: which numbers they are,
--- and what they show. Assumes nothing.
+-- The refusals that are judged before the clock moves: which numbers they are, and what they show. In order: times;
+-- requests, with the refusal after the move. Assumes nothing.
 use Prim.Native.Nat.{ℕ, _≤_, _<_}
 use native.Mathlib.Omega.{arith}
 use mathlib.Core.Path.{_≡_, refl, _∙_}
@@ -9,8 +9,42 @@ use borrow.Author.Tests.{eq-eqb, ne-eqb, lt-ltb, le-ltb, ltb-false, leb-false}
 use Rattle.lists.specs.Lists.{at, within}
 use Rattle.lists.proofs.Testing.{cond-true, cond-false, passed}
 use Rattle.rule.specs.State.{State, isOpen}
-use Rattle.rule.specs.Calls.{lastTime, mostAmount, moved, requestRefusal}
-use Rattle.requests.specs.Early.{timeRefusal, earlyRefusal}
+use Rattle.rule.specs.Calls.{moved, lastTime, mostAmount, advanceRefusal, requestRefusal}
+use Rattle.requests.specs.Early.{earlyRefusal}
+
+-- ---- times
+
+abbrev two : Bool → Bool → ℕ → ℕ
+two a b n = cond a 10 (cond b 11 n)
+
+two-first : (a b : Bool) (n : ℕ) → (two a b 0 ≡ 0 → ⊥) → two a b 0 ≡ two a b n
+two-first true b n h = refl
+two-first false true n h = refl
+two-first false false n h = absurd (h refl)
+
+pub time-first : (count clock t k a : ℕ) → (advanceRefusal clock t ≡ 0 → ⊥)
+    → advanceRefusal clock t ≡ earlyRefusal count clock t k a
+unfolding advanceRefusal earlyRefusal
+time-first count clock t k a = two-first (ltb lastTime t) (ltb t clock) _
+
+two-between : (a b : Bool) → (two a b 0 ≡ 0 → ⊥) → (10 ≤ two a b 0) × (two a b 0 ≤ 13)
+two-between true b h = (omega arith, omega arith)
+two-between false true h = (omega arith, omega arith)
+two-between false false h = absurd (h refl)
+
+pub time-between : (clock t : ℕ) → (advanceRefusal clock t ≡ 0 → ⊥)
+    → (10 ≤ advanceRefusal clock t) × (advanceRefusal clock t ≤ 13)
+unfolding advanceRefusal
+time-between clock t = two-between (ltb lastTime t) (ltb t clock)
+
+pub time-passed : (clock t : ℕ) → advanceRefusal clock t ≡ 0 → (t ≤ lastTime) × (clock ≤ t)
+unfolding advanceRefusal
+time-passed clock t e =
+    let p10 = passed (ltb lastTime t) 9 _ e in
+    let p11 = passed (ltb t clock) 10 _ (p10 .1) in
+    (ltb-false lastTime t (p10 .0), ltb-false t clock (p11 .0))
+
+-- ---- requests
 
 abbrev four : Bool → Bool → Bool → Bool → ℕ → ℕ
 four a b c d n = cond a 10 (cond b 11 (cond c 12 (cond d 13 n)))
@@ -30,42 +64,13 @@ four-between false false true d h = (omega arith, omega arith)
 four-between false false false true h = (omega arith, omega arith)
 four-between false false false false h = absurd (h refl)
 
--- ---- times
-
-abbrev two : Bool → Bool → ℕ → ℕ
-two a b n = cond a 10 (cond b 11 n)
-
-two-first : (a b : Bool) (n : ℕ) → (two a b 0 ≡ 0 → ⊥) → two a b 0 ≡ two a b n
-two-first true b n h = refl
-two-first false true n h = refl
-two-first false false n h = absurd (h refl)
-
-pub time-first : (count clock t k a : ℕ) → (timeRefusal clock t ≡ 0 → ⊥)
-    → timeRefusal clock t ≡ earlyRefusal count clock t k a
-unfolding timeRefusal earlyRefusal
-time-first count clock t k a = two-first (ltb lastTime t) (ltb t clock) _
-
-pub time-between : (clock t : ℕ) → (timeRefusal clock t ≡ 0 → ⊥)
-    → (10 ≤ timeRefusal clock t) × (timeRefusal clock t ≤ 13)
-unfolding timeRefusal
-time-between clock t = four-between (ltb lastTime t) (ltb t clock) false false
-
-pub time-passed : (clock t : ℕ) → timeRefusal clock t ≡ 0 → (t ≤ lastTime) × (clock ≤ t)
-unfolding timeRefusal
-time-passed clock t e =
-    let p10 = passed (ltb lastTime t) 9 _ e in
-    let p11 = passed (ltb t clock) 10 _ (p10 .1) in
-    (ltb-false lastTime t (p10 .0), ltb-false t clock (p11 .0))
-
--- ---- requests
-
 -- what a request that is not refused before the clock moves has shown
-pub record Passed (count clock t k a : ℕ) : Type 0 where
+pub record Passed (count clock t k : ℕ) : Type 0 where
   pub time : t ≤ lastTime
   pub later : clock ≤ t
   pub task : k < count
 
-pub early-passed : (count clock t k a : ℕ) → earlyRefusal count clock t k a ≡ 0 → Passed count clock t k a
+pub early-passed : (count clock t k a : ℕ) → earlyRefusal count clock t k a ≡ 0 → Passed count clock t k
 unfolding earlyRefusal
 early-passed count clock t k a e =
     let p10 = passed (ltb lastTime t) 9 _ e in
@@ -78,7 +83,7 @@ early-passed count clock t k a e =
     }
 
 module _ (s : State) (t k a : ℕ) where
-  abbrev early : ℕ
+  abbrev pub early : ℕ
   early = earlyRefusal (s .setup .count) (s .clock) t k a
 
   refusal-early : requestRefusal s t k a ≡ cond (eqb early 0) (cond (isOpen (moved s t) k) 14 0) early

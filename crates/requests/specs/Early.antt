@@ -1,4 +1,4 @@
--- What judging a call before the clock moves promises. Assumes nothing.
+-- What judging a request before the clock moves promises. Assumes nothing.
 use Prim.Native.Nat.{ℕ}
 use mathlib.Core.Bool.{not}
 use mathlib.Core.List.{[], _∷_}
@@ -6,10 +6,6 @@ use lib.Dec.{ltb, leb}
 use Rattle.lists.specs.Lists.{within}
 use Rattle.rule.specs.Refusal.{refuse, first}
 use Rattle.rule.specs.Calls.{lastTime, mostAmount}
-
--- "Advance: 10, 11."
-unfoldable pub timeRefusal : ℕ → ℕ → ℕ
-timeRefusal clock t = first (refuse 10 (ltb lastTime t) ∷ refuse 11 (ltb t clock) ∷ [])
 
 -- "Request: 10, 11, 12, 13, 14.": the refusals that are judged before the clock moves
 unfoldable pub earlyRefusal : ℕ → ℕ → ℕ → ℕ → ℕ → ℕ

@@ -1,12 +1,13 @@
 // Judging a call before the clock moves, refusals 10 to 13, and a table's columns, 20 to 22: one place for runs and
 // tables.
 ghost use mathlib.Core.Path.{_≡_};
+ghost use Rattle.rule.specs.Calls.{advanceRefusal};
 ghost use Rattle.rule.specs.Table.{columnRefusal};
-ghost use Rattle.requests.specs.Early.{timeRefusal, earlyRefusal};
+ghost use Rattle.requests.specs.Early.{earlyRefusal};
 
 // The refusal of a time by 10 or 11, or 0.
 pub fn time_refusal(clock: u32, time: u32) -> u32
-    ensures { λ r. ⌜ r ≡ timeRefusal clock time ⌝ }
+    ensures { λ r. ⌜ r ≡ advanceRefusal clock time ⌝ }
 {
     if 4_000_000_000 < time {
         return 10;

@@ -54,7 +54,11 @@ begun-parts p =
 
 begun-kept : (p : Setup) → legs.Kept p begun zeros32
 begun-kept p =
-    record { fits = zero-le; whole = refl; clear = refl; inside = zero-le; serves = λ h. absurd (not-suc-le-zero h) }
+    record {
+      tidy = record { fits = zero-le; whole = refl; clear = refl };
+      inside = zero-le;
+      serves = λ h. absurd (not-suc-le-zero h);
+    }
 
 -- ---- an accepted request
 

@@ -9,7 +9,7 @@ use Rattle.rule.specs.Calls.{moved, drained, opened, effect, requestRefu
 use Rattle.rule.specs.Readings.{doneAt, doneWithin, nextDone}
 use Rattle.rule.specs.Table.{completion, completions, unlessRefused, outcomeFrom, rows, columnRefusal}
 use Rattle.rule.specs.Table.{tableRefusal, tableFrom, table, written}
-use Rattle.rule.specs.Cases.{Case, starred}
+use Rattle.rule.specs.Cases.{Case, starred, ours}
 use Rattle.rule.specs.Limits.{limits}
 use Rattle.rule.specs.Worked.{worked}
 
@@ -21,6 +21,12 @@ unfolding total without zeros sliceFits bytesFit setupRefusal before best chosen
     give rest serve tickOn tick ticks moved drained opened effect requestRefusal advanceRefusal refusal call calls
     completion completions unlessRefused outcomeFrom tableFrom
 starred-hold = refl
+
+pub ours-hold : AsSaid ours
+unfolding total without zeros sliceFits bytesFit setupRefusal before best chosen overdue headBack turn usedMore
+    give rest serve tickOn tick ticks moved drained opened effect requestRefusal advanceRefusal refusal call calls
+    completion completions unlessRefused outcomeFrom tableFrom
+ours-hold = refl
 
 pub limits-hold : AsSaid limits
 unfolding total without zeros sliceFits bytesFit setupRefusal before best chosen overdue headBack turn usedMore

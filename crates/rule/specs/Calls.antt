@@ -70,17 +70,13 @@ requestRefusal s t k a =
     ∷ [])
 
 -- "Advance: 10, 11."
-unfoldable pub advanceRefusal : State → ℕ → ℕ
-advanceRefusal s t =
-    first
-    (refuse 10 (ltb lastTime t)
-    ∷ refuse 11 (ltb t (s .clock))
-    ∷ [])
+unfoldable pub advanceRefusal : ℕ → ℕ → ℕ
+advanceRefusal clock t = first (refuse 10 (ltb lastTime t) ∷ refuse 11 (ltb t clock) ∷ [])
 
 -- The refusal of a call, 0 where it is accepted. "Drain .. is never refused."
 unfoldable pub refusal : State → Call → ℕ
 refusal s (request t k a) = requestRefusal s t k a
-refusal s (advance t) = advanceRefusal s t
+refusal s (advance t) = advanceRefusal (s .clock) t
 refusal s drain = 0
 
 -- ---- calls

@@ -1,5 +1,5 @@
--- Document 01, "Runs worked by hand": the starred runs, and runs of our own, as one list. Each case has what the
--- definitions give beside what is said of it; proofs/Computed.antt computes them all. Assumes nothing.
+-- Document 01, "Runs worked by hand": the starred runs as one list, and runs of our own as another. Each case has
+-- what the definitions give beside what is said of it; proofs/Computed.antt computes them all. Assumes nothing.
 use Prim.Native.Nat.{ℕ}
 use mathlib.Core.List.{List, [], _∷_}
 use lib.ListN.{replicate}
@@ -78,9 +78,14 @@ starred =
     ∷ refuses (robin 2 7) back 2 11
     ∷ refuses single back 2 11  -- K without task 1
     ∷ refuses (robin 1 7) back 2 11
-    -- ---- our own
+    ∷ []
+
+-- ---- our own
+
+abbrev pub ours : List Case
+ours =
     -- the used count is 0 after a completion
-    ∷ gives (robin 3 3) (request 0 0 2 ∷ request 0 1 4 ∷ request 0 2 3 ∷ []) (2 ∷ 9 ∷ 8 ∷ []) 9
+    gives (robin 3 3) (request 0 0 2 ∷ request 0 1 4 ∷ request 0 2 3 ∷ []) (2 ∷ 9 ∷ 8 ∷ []) 9
     -- an advance to the clock does not turn the queue
     ∷ gives (robin 2 1) (request 0 0 5 ∷ advance 2 ∷ advance 2 ∷ request 2 1 2 ∷ []) (7 ∷ 5 ∷ []) 7
     -- the used count of a lone task begins again at each slice

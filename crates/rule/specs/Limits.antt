@@ -7,6 +7,7 @@ use lib.ListN.{length, replicate}
 use Rattle.lists.specs.Lists.{at}
 use Rattle.rule.specs.Setups.{asked, setupRefusal, plain, orPlain}
 use Rattle.rule.specs.State.{State, fresh}
+use Rattle.rule.specs.Tick.{rest}
 use Rattle.rule.specs.Calls.{Call, request, advance, drain, refusal, call, calls}
 use Rattle.rule.specs.Cases.{number, Case, robin}
 use Rattle.rule.specs.declared.Setup.{Setup}
@@ -42,17 +43,7 @@ setups =
 
 -- a run on which nothing was asked, with the clock at t
 abbrev pub idleAt : ℕ → State
-idleAt t =
-    record {
-      setup = robin 2 1;
-      clock = t;
-      idle = t;
-      used = 0;
-      queue = [];
-      owed = replicate 32 0;
-      given = replicate 32 0;
-      done = replicate 32 0;
-    }
+idleAt t = rest (fresh (robin 2 1)) t
 
 abbrev answers : State → Call → ℕ → Case
 answers s c n = record { found = number (refusal s c); said = number n }

@@ -19,9 +19,12 @@ isPriority p = eqb (p .policy) 1
 abbrev pub isRoundRobin : Setup → Bool
 isRoundRobin p = eqb (p .policy) 2
 
+abbrev pub mostSlice : ℕ
+mostSlice = 65_535
+
 -- "Priority: the slice is 0 .. Round robin: the slice is 1 to 65,535"
 unfoldable pub sliceFits : ℕ → ℕ → Bool
-sliceFits policy slice = cond (eqb policy 1) (eqb slice 0) (within 1 65_535 slice)
+sliceFits policy slice = cond (eqb policy 1) (eqb slice 0) (within 1 mostSlice slice)
 
 -- "Priority: .. the bytes past the count are 0. Round robin: .. all 32 bytes are 0."
 unfoldable pub bytesFit : ℕ → ℕ → List ℕ → Bool

@@ -47,6 +47,10 @@ outcomeFrom s cs = unlessRefused 1 s cs (finished (completions s cs) (drained (c
 
 -- ---- the columns
 
+-- "at most 1,024 rows"
+abbrev pub mostRows : ℕ
+mostRows = 1_024
+
 -- "Columns of times, tasks and amounts"
 unfoldable pub rows : List ℕ → List ℕ → List ℕ → List Call
 rows [] ks ms = []
@@ -54,12 +58,12 @@ rows (t ∷ ts) [] ms = []
 rows (t ∷ ts) (k ∷ ks) [] = []
 rows (t ∷ ts) (k ∷ ks) (m ∷ ms) = request t k m ∷ rows ts ks ms
 
--- "equally long, at most 1,024 rows"; by the columns' lengths and that of the result column
+-- "equally long", and not too many; by the columns' lengths and that of the result column
 unfoldable pub columnRefusal : ℕ → ℕ → ℕ → ℕ → ℕ
 columnRefusal times tasks amounts room =
     first
     (refuse 20 (not (eqb tasks times && eqb amounts times))
-    ∷ refuse 21 (ltb 1_024 times)
+    ∷ refuse 21 (ltb mostRows times)
     ∷ refuse 22 (ltb room times)
     ∷ [])
 

@@ -32,8 +32,8 @@ chosen p (h ∷ t) = cond (isPriority p) (best (p .priority) h t) h
 -- ---- the turn
 
 -- the used count equals the slice length; under priority there is none
-unfoldable pub overdue : State → Bool
-overdue s = cond (isPriority (s .setup)) false (eqb (s .used) (s .setup .slice))
+unfoldable pub overdue : Setup → ℕ → Bool
+overdue p used = cond (isPriority p) false (eqb used (p .slice))
 
 -- the head moves to the back
 unfoldable pub headBack : List ℕ → List ℕ
@@ -48,8 +48,8 @@ turn s =
       setup = s .setup;
       clock = s .clock;
       idle = s .idle;
-      used = cond (overdue s) 0 (s .used);
-      queue = cond (overdue s) (headBack (s .queue)) (s .queue);
+      used = cond (overdue (s .setup) (s .used)) 0 (s .used);
+      queue = cond (overdue (s .setup) (s .used)) (headBack (s .queue)) (s .queue);
       owed = s .owed;
       given = s .given;
       done = s .done;

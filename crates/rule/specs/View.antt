@@ -2,6 +2,7 @@
 -- run that they give. Assumes nothing.
 use Prim.Native.Nat.{ℕ, _-_, _≤_}
 use mathlib.Core.Path.{_≡_}
+use mathlib.Core.List.{List}
 use lib.ListN.{take, drop, length, replicate}
 use Rattle.rule.specs.Setups.{setupRefusal, orPlain}
 use Rattle.rule.specs.State.{State, fresh}
@@ -23,11 +24,15 @@ view r =
       done = r .done;
     }
 
+-- n tasks stand at the first of an array's 32 places, and 0 behind them
+pub record Clear (n : ℕ) (q : List ℕ) : Type 0 where
+  pub fits : n ≤ 32
+  pub whole : length q ≡ 32
+  pub clear : drop n q ≡ replicate (32 - n) 0
+
 -- The queue's array holds 0 behind the queue: so a tidy run is fixed by its view.
-pub record Tidy (r : Run) : Type 0 where
-  pub fits : r .queued ≤ 32
-  pub whole : length (r .queue) ≡ 32
-  pub clear : drop (r .queued) (r .queue) ≡ replicate (32 - r .queued) 0
+abbrev pub Tidy : Run → Type 0
+Tidy r = Clear (r .queued) (r .queue)
 
 -- "A call may require that the run .. was made by a setup .. and calls on it."
 pub record MadeRun (r : Run) : Type 0 where

@@ -52,12 +52,12 @@ module _ (s : Setup) (c : Cursor) (q o g d : List ℕ) (K : Kept s c q) (S : Sou
       rw er
       (stepped s (restedTo c limit) q limit limit (parts s c q o g d) (parts s (restedTo c limit) q o g d) h
       (omega arith)
-      (record { fits = K .fits; whole = K .whole; clear = K .clear; inside = K .inside; serves = K .serves })
+      (record { tidy = K .tidy; inside = K .inside; serves = K .serves })
       (resting ∙ sym (ticks-idle limit (parts s c q o g d) empty)))
     where
       empty : queueAt s (c .head) (c .queued) q ≡ []
       empty = length-zero (queueAt s (c .head) (c .queued) q)
-          (queueAt-length s (c .head) (c .queued) q (omega (arith, K .fits, K .whole)) ∙ z)
+          (queueAt-length s (c .head) (c .queued) q (omega (arith, K .tidy .fits, K .tidy .whole)) ∙ z)
 
       resting : parts s (restedTo c limit) q o g d ≡ rest (parts s c q o g d) limit
       resting = unfold rest in refl
@@ -96,7 +96,7 @@ module _ (s : Setup) (c : Cursor) (q o g d : List ℕ) (K : Kept s c q) (S : Sou
       head-below = omega (arith, kept .inside, queued)
 
       room : n ≤ length q
-      room = omega (arith, kept .fits, K .whole)
+      room = omega (arith, kept .tidy .fits, K .tidy .whole)
 
       finished-queue : queueAt s (r .head) (r .queued) q′ ≡ without (l .task) (queueAt s h n q)
       finished-queue =
@@ -123,19 +123,22 @@ module _ (s : Setup) (c : Cursor) (q o g d : List ℕ) (K : Kept s c q) (S : Sou
       finished-kept : Kept s r q′
       finished-kept =
           let w : length q′ ≡ 32 =
-          ap length (F .left) ∙ takenOut-length h q (omega (arith, head-below, room)) ∙ K .whole in
-          let m : r .queued ≤ 32 = omega (arith, F .queued, kept .fits) in
-          let z : 32 - n + 1 ≡ 32 - r .queued = omega (arith, F .queued, head-below, kept .fits) in
+          ap length (F .left) ∙ takenOut-length h q (omega (arith, head-below, room)) ∙ K .tidy .whole in
+          let m : r .queued ≤ 32 = omega (arith, F .queued, kept .tidy .fits) in
+          let z : 32 - n + 1 ≡ 32 - r .queued = omega (arith, F .queued, head-below, kept .tidy .fits) in
           record {
-            fits = m;
-            whole = w;
-            clear =
-                ap (λ (x : ℕ). drop x q′) (F .queued)
-                ∙ ap (drop (n - 1)) (F .left)
-                ∙ drop-takenOut h n q head-below room
-                ∙ ap (λ (x : List ℕ). x ++ 0 ∷ []) (kept .clear)
-                ∙ replicate-append-replicate (32 - n) 1 0
-                ∙ ap (λ (x : ℕ). replicate x 0) z;
+            tidy =
+                record {
+                  fits = m;
+                  whole = w;
+                  clear =
+                      ap (λ (x : ℕ). drop x q′) (F .queued)
+                      ∙ ap (drop (n - 1)) (F .left)
+                      ∙ drop-takenOut h n q head-below room
+                      ∙ ap (λ (x : List ℕ). x ++ 0 ∷ []) (kept .tidy .clear)
+                      ∙ replicate-append-replicate (32 - n) 1 0
+                      ∙ ap (λ (x : ℕ). replicate x 0) z;
+                };
             inside = heads-inside s h (r .queued) q′ (r .head) (F .head);
             serves = λ p. heads-serves s h (r .queued) q′ (r .head) (F .head) p (omega arith);
           }

@@ -4,7 +4,7 @@ use legs::Cursor;
 use legs::Leg;
 use rule::Setup;
 ghost use mathlib.Core.Path.{_≡_};
-ghost use Prim.Native.Nat.{ℕ, _+_, _≤_, _<_, _^_};
+ghost use Prim.Native.Nat.{_+_, _≤_, _<_, _^_};
 ghost use Rattle.lists.specs.Lists.{at};
 ghost use Rattle.laws.specs.Sound.{Sound};
 ghost use Rattle.line.specs.Places.{Tasks};

@@ -1,6 +1,5 @@
 // The table run over columns: rows requested in order on a fresh run, and then a drain.
 use rule::Setup;
-ghost use mathlib.Core.Path.{_≡_};
 ghost use Prim.Native.Nat.{_<_};
 ghost use lib.ListN.{length};
 ghost use Rattle.rule.specs.Setups.{asked};

@@ -8,7 +8,7 @@ use Rattle.legs.specs.Parts.{parts}
 use Rattle.requests.specs.Early.{earlyRefusal}
 use Rattle.requests.proofs.Early.{Passed, early-passed}
 use Rattle.legs.proofs.Legs.{kept-tasks}
-use Rattle.engine.proofs.Requests.{asks-early, asks-open, queue-room, asks-taken}
+use Rattle.engine.proofs.Requests.{asks-early, asks-open, asks-room, asks-taken}
 use Rattle.engine.proofs.ask.Statement.{statement}
 use Rattle.engine.proofs.ask.Tie as tie
 
@@ -26,7 +26,7 @@ early : (c : tie.Else1)
 early c = sym (c .before .early-refusal .ensures) ∙ c .if1 .left
 
 passed : (c : tie.Else1)
-    → let a = c .before .before .args in Passed (a .s .count) (a .c .clock) (a .time) (a .task) (a .amount)
+    → let a = c .before .before .args in Passed (a .s .count) (a .c .clock) (a .time) (a .task)
 passed c = early-passed _ _ _ _ _ (early c)
 
 known : (c : tie.Else1) → c .before .before .args .task < 32
@@ -60,7 +60,7 @@ joined-requires c κs =
     let r = w .walk .ensures in (
       r .kept,
       (
-        queue-room _ _ _ _ _ (sound w) (early (past w)) _ _ _ _ _ r (omega (arith, c .before .before .if2 .left)),
+        asks-room _ _ _ _ _ (sound w) (early (past w)) _ _ _ _ _ r (omega (arith, c .before .before .if2 .left)),
         (kept-tasks _ _ _ _ _ _ (r .kept) (r .sound), known (past w)),
       ),
     )

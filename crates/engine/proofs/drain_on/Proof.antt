@@ -5,7 +5,7 @@ use mathlib.Core.Path.{ap, _∙_}
 use borrow.Author.Needs.{needs}
 use Rattle.rule.specs.Calls.{moved}
 use Rattle.legs.specs.Parts.{parts}
-use Rattle.engine.proofs.Walks.{moved-drained}
+use Rattle.laws.proofs.Ticks.{moved-drained}
 use Rattle.engine.proofs.drain_on.Statement.{statement}
 use Rattle.engine.proofs.drain_on.Tie as tie
 

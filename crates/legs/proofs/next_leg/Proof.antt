@@ -27,7 +27,7 @@ known : (c : tie.After-turned) → at (c .before .args .queue .now) (c .turned .
 known c = omega (arith, at-inside (c .before .args .owed .now) _ (owes c), c .before .pre .0 .owed32)
 
 element-copy-out-task : tie.Need-element-copy-out-task
-element-copy-out-task c = omega (arith, some c, c .before .pre .0 .kept .fits)
+element-copy-out-task c = omega (arith, some c, c .before .pre .0 .kept .tidy .fits)
 
 cast-i : tie.Need-cast-i
 cast-i c = omega (arith, known (c .before))
@@ -44,7 +44,7 @@ at-once-requires c κs =
       s .pre .1,
       (
         owes (c .before .before),
-        rw (c .before .before .turned .ensures) (turned-room (s .args .s) (s .args .c) (s .pre .0 .slice)),
+        rw (c .before .before .turned .ensures) (turned-room (s .args .s) (s .args .c) (s .pre .0 .sliced)),
       ),
     )
 

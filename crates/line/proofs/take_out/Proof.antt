@@ -15,23 +15,23 @@ abbrev μ-loop : tie.MeasureT-loop
 μ-loop queue₀ place n last k₀ queue k = last - k
 
 inside : (c : tie.Start Inv-loop μ-loop) → c .args .place < 32
-inside c = omega (arith, c .pre .1 .0)
+inside c = omega (arith, c .pre .0, c .pre .1 .fits)
 
 whole : (c : tie.At-loop Inv-loop μ-loop) → length (c .loop .queue) ≡ 32
 whole c =
     let s = c .before in
     let i = c .loop in
-    movedUp-length (s .args .place) (s .args .queue .now) (inside s) (s .pre .0) (i .k) (i .queue) (i .inv .0)
-    (omega (arith, i .inv .1, s .pre .1 .0)) (i .inv .2)
+    movedUp-length (s .args .place) (s .args .queue .now) (inside s) (s .pre .1 .whole) (i .k) (i .queue) (i .inv .0)
+    (omega (arith, i .inv .1, s .pre .0, s .pre .1 .fits)) (i .inv .2)
 
 sub-last : tie.Need-sub-last Inv-loop μ-loop
-sub-last c = omega (arith, c .pre .1 .0)
+sub-last c = omega (arith, c .pre .0, c .pre .1 .fits)
 
 loop-holds : tie.Need-loop-holds Inv-loop μ-loop
 loop-holds c = (
   omega arith,
-  omega (arith, c .pre .1),
-  movedUp-start (c .args .place) (c .args .queue .now) (inside c) (c .pre .0),
+  omega (arith, c .pre .0),
+  movedUp-start (c .args .place) (c .args .queue .now) (inside c) (c .pre .1 .whole),
 )
 
 element-copy-out-queue : tie.Need-element-copy-out-queue Inv-loop μ-loop
@@ -46,8 +46,8 @@ loop-again c =
     let i = c .before .before .loop in (
       omega arith,
       omega arith,
-      movedUp-step (s .args .place) (s .args .queue .now) (inside s) (s .pre .0) (i .k) (i .queue) (i .inv .0)
-          (omega (arith, c .before .loop-test .taken, s .pre .1 .0)) (i .inv .2),
+      movedUp-step (s .args .place) (s .args .queue .now) (inside s) (s .pre .1 .whole) (i .k) (i .queue) (i .inv .0)
+          (omega (arith, c .before .loop-test .taken, s .pre .0, s .pre .1 .fits)) (i .inv .2),
     )
 
 element-write-queue-2 : tie.Need-element-write-queue-2 Inv-loop μ-loop
@@ -57,8 +57,8 @@ returns : tie.Need-returns Inv-loop μ-loop
 returns c =
     let s = c .before .before in
     let i = c .before .loop in
-    movedUp-end (s .args .place) (s .args .queue .now) (inside s) (s .pre .0) (s .args .n) (i .k) (i .queue)
-    (s .pre .1 .0 .0) (s .pre .1 .0 .1) (s .pre .1 .1) (omega (arith, i .inv .1, c .loop-test .left)) (i .inv .2)
+    movedUp-end (s .args .place) (s .args .queue .now) (inside s) (s .pre .1 .whole) (s .args .n) (i .k) (i .queue)
+    (s .pre .0) (s .pre .1 .fits) (s .pre .1 .clear) (omega (arith, i .inv .1, c .loop-test .left)) (i .inv .2)
 
 pub take-out-spec : {M : Type 1} → statement M
 take-out-spec =

@@ -10,7 +10,7 @@ take-out-requires : tie.Need-take-out-requires
 take-out-requires c κs =
     let s = c .before .before .before in
     let K = s .pre .1 .0 in
-    (K .whole, ((omega (arith, K .inside, s .pre .1 .1 .0), K .fits), K .clear))
+    (omega (arith, K .inside, s .pre .1 .1 .0), K .tidy)
 
 head-of-requires : tie.Need-head-of-requires
 head-of-requires c κs =
@@ -19,8 +19,8 @@ head-of-requires c κs =
     let q = s .args .queue .now in
     let K = s .pre .1 .0 in
     rw (c .before .take-out .ensures) (
-      takenOut-length h q (omega (arith, K .inside, K .fits, K .whole, s .pre .1 .1 .0)) ∙ K .whole,
-      (takenOut-below 32 h q (s .pre .1 .1 .1 .0), omega (arith, K .fits)),
+      takenOut-length h q (omega (arith, K .inside, K .tidy .fits, K .tidy .whole, s .pre .1 .1 .0)) ∙ K .tidy .whole,
+      (takenOut-below 32 h q (s .pre .1 .1 .1 .0), omega (arith, K .tidy .fits)),
     )
 
 pub finished-spec : {M : Type 1} → statement M

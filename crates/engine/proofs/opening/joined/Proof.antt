@@ -4,7 +4,7 @@ use native.Mathlib.Omega.{arith}
 use mathlib.Core.Path.{_≡_}
 use lib.ListN.{length-set}
 use borrow.Author.Needs.{needs}
-use Rattle.engine.proofs.Joining.{straight-queued, straight-whole, straight-tasks, straight-heads, joined-opens}
+use Rattle.engine.proofs.Joining.{straight-queued, straight-tidy, straight-tasks, straight-heads, joined-opens}
 use Rattle.engine.proofs.opening.joined.Statement.{statement}
 use Rattle.engine.proofs.opening.joined.Tie as tie
 
@@ -25,7 +25,7 @@ head-with-requires c κs =
     let a = s .args in
     let e = p .straightened .ensures in
     let K = s .pre .0 in (
-      rw length-set (straight-whole (a .s) (a .c) (a .queue .now) K _ (e .1)),
+      rw length-set (straight-tidy (a .s) (a .c) (a .queue .now) K _ (e .1) .whole),
       (
         rw (same p)
             (straight-tasks (a .s) (a .c) (a .queue .now) K _ (e .1) (a .task) (s .pre .1 .0) (s .pre .1 .1 .1)

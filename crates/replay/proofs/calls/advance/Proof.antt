@@ -2,13 +2,12 @@
 -- nothing.
 use native.Mathlib.Omega.{arith}
 use mathlib.Core.Path.{_≡_, refl, sym, _∙_}
-use Rattle.rule.specs.Calls.{Call, advance}
+use Rattle.rule.specs.Calls.{Call, advance, advanceRefusal}
 use Rattle.rule.specs.View.{view}
+use Rattle.laws.proofs.Refusals.{refusal-advance, effect-advance}
 use Rattle.laws.proofs.Made.{made-sound}
-use Rattle.requests.specs.Early.{timeRefusal}
 use Rattle.requests.proofs.Early.{time-between, time-passed}
-use Rattle.replay.proofs.Calling.{shows-then, refused-promised, promised-accepted, advance-refusal}
-use Rattle.replay.proofs.Calling.{advance-effect}
+use Rattle.replay.proofs.Calling.{shows-then, refused-promised, accepted-promised}
 use Rattle.replay.proofs.calls.advance.Statement.{statement}
 use Rattle.replay.proofs.calls.advance.Tie as tie
 
@@ -16,7 +15,7 @@ abbrev asking : tie.Start → Call
 asking c = advance (c .args .time)
 
 -- the place past the refusals
-fits : (c : tie.Else1) → let a = c .before .before .args in timeRefusal (a .run .clock) (a .time) ≡ 0
+fits : (c : tie.Else1) → let a = c .before .before .args in advanceRefusal (a .run .clock) (a .time) ≡ 0
 fits c = sym (c .before .time-refusal .ensures) ∙ c .if1 .left
 
 answer-of-requires : tie.Need-answer-of-requires
@@ -29,7 +28,7 @@ returns : tie.Need-returns
 returns c =
     let s = c .before .before .before in
     refused-promised _ (asking s) _ _ (c .answer-of .ensures)
-    (c .before .before .time-refusal .ensures ∙ advance-refusal (view (s .args .run)) _) (c .before .if1 .taken)
+    (c .before .before .time-refusal .ensures ∙ sym (refusal-advance (view (s .args .run)) _)) (c .before .if1 .taken)
     record { tidy = s .pre .tidy; shown = refl }
 
 moved-to-requires : tie.Need-moved-to-requires
@@ -41,9 +40,8 @@ moved-to-requires c κs =
 returns-2 : tie.Need-returns-2
 returns-2 c =
     let s = c .before .before .before in
-    promised-accepted _ (asking s) _ 0 _ refl
-    (sym (fits (c .before)) ∙ advance-refusal (view (s .args .run)) _) refl
-    (shows-then (c .moved-to .ensures) (advance-effect _ _))
+    accepted-promised _ (asking s) _ (refusal-advance (view (s .args .run)) _ ∙ fits (c .before))
+    (shows-then (c .moved-to .ensures) (sym (effect-advance _ _)))
 
 pub advance-spec : {M : Type 1} → statement M
 advance-spec = tie.close (tie.spec (λ c κs. tt) answer-of-requires returns moved-to-requires returns-2)

@@ -2,12 +2,14 @@
 -- nothing.
 use Prim.Native.Nat.{ℕ, _+_}
 use native.Mathlib.Omega.{arith}
-use mathlib.Core.Path.{refl, ap, _∙_}
+use mathlib.Core.Path.{sym, ap, _∙_}
 use Rattle.rule.specs.Calls.{moved, drain}
 use Rattle.rule.specs.View.{view}
+use Rattle.laws.proofs.Ticks.{moved-drained}
+use Rattle.laws.proofs.Refusals.{refusal-drain, effect-drain}
 use Rattle.laws.proofs.Made.{made-sound}
 use Rattle.laws.proofs.Drain.{made-within}
-use Rattle.replay.proofs.Calling.{shows-then, promised-accepted, drain-refusal, drain-effect}
+use Rattle.replay.proofs.Calling.{shows-then, accepted-promised}
 use Rattle.replay.proofs.calls.drain.Statement.{statement}
 use Rattle.replay.proofs.calls.drain.Tie as tie
 
@@ -33,9 +35,11 @@ returns : tie.Need-returns
 returns c =
     let summed = c .before .before in
     let run = start summed .args .run in
-    promised-accepted run drain _ 0 _ refl (drain-refusal (view run)) refl
+    accepted-promised run drain _ (refusal-drain (view run))
     (shows-then (c .moved-to .ensures)
-    (ap (λ (n : ℕ). moved (view run) (run .clock + n)) (summed .total-of .ensures) ∙ drain-effect (view run)))
+    (ap (λ (n : ℕ). moved (view run) (run .clock + n)) (summed .total-of .ensures)
+    ∙ moved-drained (view run)
+    ∙ sym (effect-drain (view run))))
 
 pub drain-spec : {M : Type 1} → statement M
 drain-spec = tie.close (tie.spec total-of-requires add-moved-to moved-to-requires returns)

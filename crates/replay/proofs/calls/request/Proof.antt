@@ -9,7 +9,7 @@ use Rattle.rule.specs.View.{view}
 use Rattle.laws.proofs.Made.{made-sound}
 use Rattle.requests.specs.Early.{earlyRefusal}
 use Rattle.requests.proofs.Early.{Passed, early-passed, early-between}
-use Rattle.replay.proofs.Calling.{refused-promised, promised-accepted}
+use Rattle.replay.proofs.Calling.{refused-promised, accepted-promised}
 use Rattle.replay.proofs.Opening.{early-number, open-number, taken-number, taken-room, taken-shows}
 use Rattle.replay.proofs.calls.request.Statement.{statement}
 use Rattle.replay.proofs.calls.request.Tie as tie
@@ -26,7 +26,7 @@ early : (c : tie.Else1)
 early c = sym (c .before .early-refusal .ensures) ∙ c .if1 .left
 
 passed : (c : tie.Else1)
-    → let a = start c .args in Passed (a .run .setup .count) (a .run .clock) (a .time) (a .task) (a .amount)
+    → let a = start c .args in Passed (a .run .setup .count) (a .run .clock) (a .time) (a .task)
 passed c = early-passed _ _ _ _ _ (early c)
 
 known : (c : tie.Else1) → start c .args .task < 32
@@ -84,8 +84,7 @@ returns-3 c =
     let v = view (s .args .run) in
     let e = early (m .before) in
     let r = m .moved-to .ensures in
-    promised-accepted _ (asking s) _ 0 _ refl
-    (taken-number v _ _ _ e _ r (omega (arith, c .before .if2 .left))) refl
+    accepted-promised _ (asking s) _ (taken-number v _ _ _ e _ r (omega (arith, c .before .if2 .left)))
     (taken-shows v _ _ _ e _ r _ (c .opened-by .ensures))
 
 pub request-spec : {M : Type 1} → statement M
