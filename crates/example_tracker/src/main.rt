@@ -1,5 +1,5 @@
-// Run A of document 01 followed on one run that is moved in place: a line after each call, and at the end the
-// completions.
+// Run A of document 01 followed call by call: each lends the run to the call in place, by a function that ends in
+// `_through`. A line after each call, and at the end the completions.
 use libc::STDOUT_FILENO;
 use readings::Completion;
 use rule::Run;
