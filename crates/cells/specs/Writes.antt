@@ -17,6 +17,6 @@ pub record WroteUpTo (most : ℕ) (before after : List ℕ) (at : ℕ) (s : List
   pub wrote : Wrote before after at s r
   pub short : r ≤ at + most
 
--- The text s stands at the start of a buffer of 65,536 bytes, and r is its length.
+-- The text s stands at the start of the buffer, and r is its length, at most 65,536.
 abbrev pub Puts : List ℕ → List ℕ → List ℕ → ℕ → Type 0
 Puts before after s r = WroteUpTo 65_536 before after 0 s r

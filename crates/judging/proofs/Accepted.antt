@@ -1,5 +1,5 @@
--- What a log that reads says of its blocks. In order: its size; each block's refusal is none; the numbers of records;
--- the words of a block are words of the log. Assumes nothing.
+-- What a log that reads says of its blocks. In order: no refusal is accepted; its size; each block's refusal is none;
+-- the numbers of records; the words of a block are words of the log. Assumes nothing.
 use Prim.Native.Nat.{ℕ, zero, suc, _+_, _*_, _-_, _%_, _≤_, _<_}
 use native.Mathlib.Omega.{arith}
 use native.Mathlib.Nat.{eq-or-lt-of-le}
@@ -29,10 +29,6 @@ pub cond-accepted : (b : Bool) (v : Verdict) (n i : ℕ) → cond b v (refused n
 cond-accepted true v n i e = (refl, e)
 cond-accepted false v n i e = refused-not e
 
-pub lt-of-ne : (n : ℕ) → (n ≡ 0 → ⊥) → 0 < n
-lt-of-ne zero e = absurd (e refl)
-lt-of-ne (suc n) e = omega arith
-
 -- ---- size
 
 pub record Sized (log : List ℕ) : Type 0 where
@@ -40,17 +36,20 @@ pub record Sized (log : List ℕ) : Type 0 where
   pub some : 1 ≤ blocks log
   pub most : blocks log ≤ 26
 
+pub fits-sized : (log : List ℕ) → lengthFits log ≡ true → Sized log
+unfolding lengthFits
+fits-sized log f =
+    let p = and-true (eqb (length log % 512) 0) (within 1 26 (blocks log)) f in
+    let e = eqb-true (length log % 512) 0 (p .0) in
+    let w = within-true 1 26 (blocks log) (p .1) in
+    record { whole = omega arith; some = w .0; most = w .1 }
+
 accepted-length : (log : List ℕ) → Reads log → (lengthFits log ≡ true) × (judgedFrom log 0 (blocks log) ≡ accepted)
 unfolding judged
 accepted-length log r = cond-accepted (lengthFits log) (judgedFrom log 0 (blocks log)) 30 0 r
 
 pub accepted-sized : (log : List ℕ) → Reads log → Sized log
-unfolding lengthFits
-accepted-sized log r =
-    let p = and-true (eqb (length log % 512) 0) (within 1 26 (blocks log)) (accepted-length log r .0) in
-    let e = eqb-true (length log % 512) 0 (p .0) in
-    let w = within-true 1 26 (blocks log) (p .1) in
-    record { whole = omega arith; some = w .0; most = w .1 }
+accepted-sized log r = fits-sized log (accepted-length log r .0)
 
 -- ---- blocks
 
@@ -69,22 +68,22 @@ pub accepted-block : (log : List ℕ) → Reads log → (i : ℕ) → i < blocks
 accepted-block log r i h = accepted-from log 0 (blocks log) (accepted-length log r .1) i (omega arith) (omega arith)
 
 -- the three tests of a block, and the setup's refusal
-pub record Sound (log : List ℕ) (i : ℕ) : Type 0 where
+pub record Passed (log : List ℕ) (i : ℕ) : Type 0 where
   pub check : checkFits (block log i) ≡ true
   pub place : placeFits i (block log i) ≡ true
   pub layout : layoutFits log i ≡ true
   pub setup : cond (eqb i 0) (setupRefusal (setupIn (block log i))) 0 ≡ 0
 
-block-sound : (log : List ℕ) (i : ℕ) → blockRefusal log i ≡ 0 → Sound log i
+block-passed : (log : List ℕ) (i : ℕ) → blockRefusal log i ≡ 0 → Passed log i
 unfolding blockRefusal
-block-sound log i e =
+block-passed log i e =
     let p = passed-not (checkFits (block log i)) 30 _ e in
     let q = passed-not (placeFits i (block log i)) 31 _ (p .1) in
     let s = passed-not (layoutFits log i) 32 _ (q .1) in
     record { check = p .0; place = q .0; layout = s .0; setup = s .1 }
 
-pub accepted-sound : (log : List ℕ) → Reads log → (i : ℕ) → i < blocks log → Sound log i
-accepted-sound log r i h = block-sound log i (accepted-block log r i h)
+pub accepted-passed : (log : List ℕ) → Reads log → (i : ℕ) → i < blocks log → Passed log i
+accepted-passed log r i h = block-passed log i (accepted-block log r i h)
 
 -- ---- records
 
@@ -92,7 +91,7 @@ pub accepted-counted : (log : List ℕ) → Reads log → (i : ℕ) → 0 < i �
     → Counted (blocks log) i (recordsTo log (i - 1)) (count (block log i))
 unfolding layoutFits
 accepted-counted log r i low high =
-    let e = accepted-sound log r i high .layout in
+    let e = accepted-passed log r i high .layout in
     let p = and-true
     (eqb i 0 || countFits (blocks log) i (recordsTo log (i - 1)) (count (block log i)))
     (unusedZero i (block log i))
@@ -129,7 +128,7 @@ accepted-most log r =
     equal-or (blocks log - 1) 0
     (λ e. rw e (omega (arith, records-zero log)))
     (λ e.
-    let two : 0 < blocks log - 1 = lt-of-ne (blocks log - 1) e in
+    let two : 0 < blocks log - 1 = omega arith in
     omega (
       arith,
       records-more log (blocks log - 1) (omega arith),

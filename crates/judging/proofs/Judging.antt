@@ -10,7 +10,7 @@ use lib.Seq.{slice, length-take-le}
 use lib.Dec.{eqb}
 use borrow.Author.Tests.{eq-eqb, ne-eqb}
 use Rattle.lists.specs.Lists.{zeros}
-use Rattle.lists.proofs.Testing.{equal-or, passed-not}
+use Rattle.lists.proofs.Testing.{passed-not}
 use Rattle.words.specs.Words.{word, check}
 use Rattle.rule.specs.Refusal.{refuse, first}
 use Rattle.rule.specs.Setups.{setupRefusal}
@@ -94,11 +94,6 @@ module _ {log : List ℕ} {n i : ℕ} {b : List ℕ} (p : Before log n i) (e : b
 
     pub refusal-setup : unused ≡ true → blockRefusal log i ≡ setup
     refusal-setup z = refusal-passes ∙ rw z
-
--- a setup that is told at block 0 alone is that of block 0
-pub setup-first : (log : List ℕ) (i : ℕ) → cond (eqb i 0) (setupRefusal (setupIn (block log i))) 0
-    ≡ cond (eqb i 0) (setupRefusal (setupIn (take 512 log))) 0
-setup-first log i = equal-or i 0 (λ e. rw e) (λ e. rw (ne-eqb i 0 e))
 
 -- ---- the blocks that are left
 

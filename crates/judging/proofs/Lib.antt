@@ -2,4 +2,3 @@ pub mod Blocks
 pub mod Judging
 pub mod Accepted
 pub mod Unique
-pub mod Refused

@@ -5,8 +5,6 @@ use native.Mathlib.Omega.{arith}
 use mathlib.Core.Path.{_≡_, refl, sym, subst, _∙_}
 use mathlib.Core.Bool.{true, false}
 use mathlib.Core.List.{List}
-use mathlib.Core.Logic.{_⊎_, inl, inr, ⊎-elim}
-use lib.Arith.{lt-of-le-ne}
 use lib.Dec.{eqb}
 use borrow.Author.Tests.{eqb-true, eqb-false, ne-eqb}
 use Rattle.lists.proofs.Testing.{tested, equal-or, cond-true, cond-false}
@@ -16,7 +14,7 @@ use Rattle.judging.specs.Log.{Verdict, refused, told, blockRefusal, judg
 use Rattle.judging.specs.declared.Judged.{Judged}
 use Rattle.judging.specs.declared.Judged.the-variants.{Accepted, Refused}
 use Rattle.judging.proofs.Judging.{judged-good, judged-refused, judged-end}
-use Rattle.judging.proofs.Accepted.{refused-not}
+use Rattle.judging.proofs.Accepted.{refused-not, fits-sized}
 
 -- ---- refused exactly when
 
@@ -42,9 +40,6 @@ fault-refused (inLength e) = rw e
 fault-refused {log} {n} {i} (inBlock e h good b z) =
     rw e (good-from log i (omega arith) good ∙ judged-refused log (blocks log) i n h b z)
 
-below : (k j : ℕ) → k < j + 1 → (j ≡ k) ⊎ (k < j)
-below k j h = equal-or j k inl (λ n. inr (lt-of-le-ne (omega arith) (λ e. n (sym e))))
-
 refused-from : (log : List ℕ) (n i : ℕ) → lengthFits log ≡ true → (left j : ℕ) → j + left ≡ blocks log
     → ((k : ℕ) → k < j → blockRefusal log k ≡ 0) → judgedFrom log j left ≡ refused n i → Fault log n i
 unfolding judgedFrom
@@ -53,7 +48,7 @@ refused-from log n i fits (suc left) j h good e =
     tested (eqb (blockRefusal log j) 0)
     (λ t.
     refused-from log n i fits left (j + 1) (omega arith)
-    (λ k g. ⊎-elim (λ q. rw (← q) (eqb-true (blockRefusal log j) 0 t)) (λ l. good k l) (below k j g))
+    (λ k g. equal-or k j (λ q. rw q (eqb-true (blockRefusal log j) 0 t)) (λ q. good k (omega arith)))
     (sym (cond-true (judgedFrom log (j + 1) left) (refused (blockRefusal log j) j) t) ∙ e))
     (λ t.
     let f = cond-false (judgedFrom log (j + 1) left) (refused (blockRefusal log j) j) t in
@@ -104,6 +99,14 @@ fault-place {log} {n} {i} (inBlock e g good b z) h =
 
 pub refused-place : (log : List ℕ) (n i : ℕ) → judged log ≡ refused n i → n < 31 → i ≡ 0
 refused-place log n i e h = fault-place (refused-fault log n i e) h
+
+fault-small : {log : List ℕ} {n i : ℕ} → Fault log n i → i ≤ 26
+fault-small (inLength e) = omega arith
+fault-small {log} (inBlock e g good b z) = omega (arith, fits-sized log e .most)
+
+-- the block of a refused log is a small number
+pub refused-small : (log : List ℕ) (n i : ℕ) → judged log ≡ refused n i → i ≤ 26
+refused-small log n i e = fault-small (refused-fault log n i e)
 
 -- ---- the answers of the code
 

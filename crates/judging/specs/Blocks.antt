@@ -8,6 +8,7 @@ use lib.Dec.{eqb, leb}
 use Rattle.lists.specs.Lists.{within, zeros}
 use Rattle.words.specs.Words.{word, check}
 use Rattle.rule.specs.Setups.{asked}
+use Rattle.rule.specs.Table.{mostRows}
 use Rattle.rule.specs.declared.Setup.{Setup}
 
 -- "Blocks of 512 bytes, 1 to 26 of them."
@@ -43,12 +44,16 @@ unfoldable pub recordsTo : List ℕ → ℕ → ℕ
 recordsTo log zero = 0
 recordsTo log (suc i) = recordsTo log i + count (block log (suc i))
 
+-- the records of a block that is full
+abbrev pub fullBlock : ℕ
+fullBlock = 41
+
 -- block i of n has c records, and the record blocks before it have `before`
 unfoldable pub countFits : ℕ → ℕ → ℕ → ℕ → Bool
 countFits n i before c =
-    within 1 41 c  -- "1 to 41"
-    && (eqb (i + 1) n || eqb c 41)  -- "Each but the last has 41 records."
-    && leb (before + c) 1_024  -- "At most 1,024 records in all."
+    within 1 fullBlock c  -- "1 to 41"
+    && (eqb (i + 1) n || eqb c fullBlock)  -- "Each but the last has 41 records."
+    && leb (before + c) mostRows  -- "At most 1,024 records in all."
 
 -- "Block 0: .. bytes 48 to 507 zero." "Other blocks: .. records of 12 bytes from byte 8 ..; unused record bytes
 -- and bytes 500 to 507 zero."

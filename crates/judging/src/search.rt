@@ -4,7 +4,7 @@ ghost use mathlib.Core.Path.{_≡_};
 ghost use mathlib.Core.Bool.{cond, not, _||_};
 ghost use mathlib.Core.List.{[], _∷_};
 ghost use Prim.Native.Nat.{_*_, _-_, _≤_, _<_};
-ghost use lib.ListN.{length, take};
+ghost use lib.ListN.{length};
 ghost use lib.Seq.{slice};
 ghost use lib.Dec.{eqb};
 ghost use Rattle.lists.specs.Lists.{zeros};
@@ -82,15 +82,14 @@ fn first_wrong(sum: bool, place: bool, count: bool) -> u32
     0
 }
 
-// The refusal 1 to 4 of the log's setup, told at block 0; 0 at the other blocks.
-fn setup_refusal_at(log: &[u8], block: usize) -> u32
-    requires { ⌜ 512 ≤ length (now log) ⌝ }
-    ensures { λ r. ⌜ r ≡ cond (eqb block 0) (setupRefusal (setupIn (take 512 (now (log .entry))))) 0 ⌝ }
+// The refusal 1 to 4 of the setup in block 0; 0 at the other blocks.
+fn setup_refusal_in(part: &[u8], block: usize) -> u32
+    requires { ⌜ length (now part) ≡ 512 ⌝ }
+    ensures { λ r. ⌜ r ≡ cond (eqb block 0) (setupRefusal (setupIn (now (part .entry)))) 0 ⌝ }
 {
     if block != 0 {
         return 0;
     }
-    let part = &log[0..512];
     setups::setup_refusal(
         word_at(part, 4),
         word_at(part, 8),
@@ -116,7 +115,7 @@ pub fn judge_blocks(log: &[u8], blocks: usize) -> Judged
         let sum = word_at(part, 508) == block_sum(part);
         let place = word_at(part, 0) as usize == block;
         let head = first_wrong(sum, place, count_right(part, blocks, block));
-        let setup = setup_refusal_at(log, block);
+        let setup = setup_refusal_in(part, block);
         if head != 0 {
             break 'search Judged::Refused {
                 number: head,

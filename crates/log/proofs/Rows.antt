@@ -19,7 +19,7 @@ use Rattle.judging.specs.Log.{Reads}
 use Rattle.log.specs.Records.{entries, columnFrom, column, askedTimes, rowList, rowAt, found}
 use Rattle.log.specs.declared.Found.the-variants.{Row, End}
 use Rattle.judging.proofs.Blocks.{records-zero, records-more}
-use Rattle.judging.proofs.Accepted.{accepted-sized, accepted-counted, accepted-last, accepted-most, lt-of-ne}
+use Rattle.judging.proofs.Accepted.{accepted-sized, accepted-counted, accepted-last, accepted-most}
 use Rattle.judging.proofs.Accepted.{word-block}
 
 -- ---- the records of one block
@@ -113,7 +113,7 @@ column-blocks w log r =
     equal-or (blocks log - 1) 0
     (λ e. omega (arith, length-column w log r, ap (recordsTo log) e, records-zero log))
     (λ e.
-    let some = lt-of-ne (blocks log - 1) e in
+    let some : 0 < blocks log - 1 = omega arith in
     let c = accepted-counted log r (blocks log - 1) some (omega arith) in
     omega (arith, length-column w log r, accepted-last log r (omega arith), c .few))
 

@@ -10,7 +10,7 @@ use lib.Dec.{ltb}
 use borrow.Author.Tests.{ltb-true, ltb-false, lt-ltb, le-ltb, lt-leb, le-leb, eq-eqb, ne-eqb}
 use Rattle.lists.proofs.Testing.{tested, equal-or}
 use Rattle.words.specs.Words.{word}
-use Rattle.judging.specs.Blocks.{blocks, block}
+use Rattle.judging.specs.Blocks.{blocks, block, fullBlock}
 use Rattle.judging.specs.Log.{Verdict, accepted, refused, judged, Reads}
 use Rattle.log.specs.Records.{askedTimes, rowAt, found}
 use Rattle.log.specs.declared.Found.the-variants.{Row, End}
@@ -47,10 +47,10 @@ module _ (log : List ℕ) (b r : ℕ) (low : 0 < b) (s : PlaceOf log b r) where
         (omega (arith, c .some), λ inner. omega (arith, c .full inner))
 
     -- the last block's count is the number of rows after the blocks before it, and each other is full
-    pub count-before : {C : Type 0}
+    pub count-cases : {C : Type 0}
         → (length (askedTimes log) ≡ 41 * (b - 1) + word log (512 * b + 4) → C)
         → (word log (512 * b + 4) ≡ 41 → 41 * b < length (askedTimes log) → C) → C
-    count-before last inner =
+    count-cases last inner =
         equal-or b (blocks log - 1)
         (λ e. last (rw e some))
         (λ e.
@@ -58,11 +58,11 @@ module _ (log : List ℕ) (b r : ℕ) (low : 0 < b) (s : PlaceOf log b r) where
         inner (counted b low h .1 l)
         (omega (arith, some, counted (blocks log - 1) (omega arith) (omega arith) .0)))
 
-    pub has-row-counted : r < word log (512 * b + 4) → rowNumber b r < length (askedTimes log)
-    has-row-counted g = count-before (λ e. omega arith) (λ e l. omega arith)
+    pub row-number-counted : r < word log (512 * b + 4) → rowNumber b r < length (askedTimes log)
+    row-number-counted g = count-cases (λ e. omega arith) (λ e l. omega arith)
 
     pub has-row-over : word log (512 * b + 4) ≤ r → hasRow log b r ≡ false
-    has-row-over g = count-before (λ e. has-row-false (omega arith)) (λ e l. absurd (omega (arith, s .few)))
+    has-row-over g = count-cases (λ e. has-row-false (omega arith)) (λ e l. absurd (omega (arith, s .few)))
 
   pub block-few : b ≤ 26
   block-few = omega (arith, s .inside, column-most 0 log (s .reads))
@@ -95,11 +95,11 @@ row-read log b r t k m low s h et ek em =
 module _ {log : List ℕ} {b r : ℕ} {x : Record} (read : RowRead log b r x) where
   pub taken-last : r ≡ 40 → record { found = Row x; block = b + 1; «record» = 0 } ≡ takenAt log b r
   unfolding takenAt
-  taken-last e = rw (read .row, read .has, eq-eqb r 40 e)
+  taken-last e = rw (read .row, read .has, eq-eqb (r + 1) fullBlock (omega arith))
 
   pub taken-next : (r ≡ 40 → ⊥) → record { found = Row x; block = b; «record» = r + 1 } ≡ takenAt log b r
   unfolding takenAt
-  taken-next e = rw (read .row, read .has, ne-eqb r 40 e)
+  taken-next e = rw (read .row, read .has, ne-eqb (r + 1) fullBlock (λ f. e (omega arith)))
 
 -- ---- the places that reading reaches
 
@@ -129,9 +129,9 @@ taking log b r low s =
     tested (ltb n rows)
     (λ e.
     let h = ltb-true n rows e in
-    equal-or r 40
+    equal-or (r + 1) fullBlock
     (λ q.
-    rw (le-leb 1 b low, e, eq-eqb r 40 q)
+    rw (le-leb 1 b low, e, eq-eqb (r + 1) fullBlock q)
     (record {
       finds = found-row log n h;
       past-zero = omega arith;
@@ -140,7 +140,7 @@ taking log b r low s =
       stays = λ l. absurd (omega arith);
     }))
     (λ q.
-    rw (le-leb 1 b low, e, ne-eqb r 40 q)
+    rw (le-leb 1 b low, e, ne-eqb (r + 1) fullBlock q)
     (record {
       finds = found-row log n h;
       past-zero = low;

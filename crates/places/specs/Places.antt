@@ -1,5 +1,5 @@
--- Document 01, "The desk's log form": the places of a log, what is taken there, where reading
--- begins. Assumes nothing.
+-- Document 01, "The desk's log form": the places of a log, what is taken there, where reading begins. Assumes
+-- nothing.
 use Prim.Native.Nat.{ℕ, _+_, _*_, _-_, _≤_, _<_}
 use mathlib.Core.Path.{_≡_}
 use mathlib.Core.Bool.{Bool, cond, _&&_}
@@ -8,6 +8,7 @@ use lib.ListN.{length}
 use lib.Dec.{eqb, leb, ltb}
 use Rattle.rule.specs.Setups.{plain}
 use Rattle.rule.specs.declared.Setup.{Setup}
+use Rattle.judging.specs.Blocks.{fullBlock}
 use Rattle.judging.specs.Log.{Verdict, accepted, refused, told, judged, Reads}
 use Rattle.log.specs.Records.{setupOf, askedTimes, rowAt}
 use Rattle.log.specs.declared.Found.the-variants.{Row, End}
@@ -18,7 +19,7 @@ use Rattle.places.specs.declared.Taken.{Taken}
 
 -- "Each but the last has 41 records.": which row stands there, counted from 0
 abbrev pub rowNumber : ℕ → ℕ → ℕ
-rowNumber b r = 41 * (b - 1) + r
+rowNumber b r = fullBlock * (b - 1) + r
 
 -- block 0 has no records
 abbrev pub hasRow : List ℕ → ℕ → ℕ → Bool
@@ -30,8 +31,8 @@ takenAt log b r =
     cond (hasRow log b r)
     (record {
       found = Row (rowAt log (rowNumber b r));
-      block = cond (eqb r 40) (b + 1) b;
-      «record» = cond (eqb r 40) 0 (r + 1);
+      block = cond (eqb (r + 1) fullBlock) (b + 1) b;
+      «record» = cond (eqb (r + 1) fullBlock) 0 (r + 1);
     })
     (record { found = End; block = b; «record» = r })
 
@@ -42,7 +43,7 @@ setupAt log b = cond (leb 1 b) (setupOf log) plain
 -- a place that is reached from the first record of a log that reads
 pub record PlaceOf (log : List ℕ) (b r : ℕ) : Type 0 where
   pub reads : Reads log
-  pub few : r < 41
+  pub few : r < fullBlock
   pub inside : rowNumber b r ≤ length (askedTimes log)
 
 -- "made by .. opening and calls on it": a refused opening leaves the reader at block 0, where it finds no record

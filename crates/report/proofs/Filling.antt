@@ -5,17 +5,18 @@ use native.Mathlib.Numerals.{add-one}
 use mathlib.Core.Path.{_≡_, refl, ap, _∙_}
 use mathlib.Core.List.{List}
 use lib.ListN.{length, take, set, length-set}
-use lib.Seq.{take-suc, take-suc-set, take-all}
+use lib.Seq.{take-suc, take-suc-set}
 use borrow.Author.Tests.{lt-ltb}
 use Rattle.lists.specs.Lists.{at}
 use Rattle.judging.specs.Log.{Reads}
+use Rattle.rule.specs.Table.{mostRows}
 use Rattle.log.specs.Records.{askedTimes, askedTasks, askedAmounts, rowAt, found}
 use Rattle.log.specs.declared.Record.{Record}
 use Rattle.log.proofs.Rows.{column-most, column-same}
 use Rattle.places.specs.Places.{rowNumber, takenAt, PlaceOf}
 use Rattle.places.specs.declared.Taken.{Taken}
 use Rattle.places.proofs.Places.{first-reached, Taking, taking}
-use Rattle.report.specs.Filled.{recordIn, Roomy, Filled, AllFilled}
+use Rattle.report.specs.Filled.{recordIn, Roomy, Filled}
 
 -- one entry more of a copy
 take-more : (copy l : List ℕ) (i v : ℕ) → i < length copy → i < length l → v ≡ at l i → take i copy ≡ take i l
@@ -25,7 +26,7 @@ take-more copy l i v h g e f = rw (add-one, take-suc-set copy i v h, take-suc l 
 -- before row i, at its place in the log
 pub record Going (log : List ℕ) (n block place i : ℕ) (times tasks amounts : List ℕ) : Type 0 where
   pub counted : n ≡ length (askedTimes log)
-  pub few : n ≤ 1_024
+  pub few : n ≤ mostRows
   pub past-zero : 0 < block
   pub reached : PlaceOf log block place
   pub here : rowNumber block place ≡ i
@@ -60,17 +61,6 @@ module _ (log : List ℕ) (h : Reads log) where
         amounts-same =
             take-more amounts (askedAmounts log) i (row .amount) (omega (arith, r .amounts-room))
             (omega (arith, column-same log h 2 0)) (ap (λ (x : Record). x .amount) e) (f .amounts-same);
-      }
-
-  pub filled-all : {times tasks amounts : List ℕ} {i : ℕ} → length (askedTimes log) ≤ i
-      → Filled log i times tasks amounts → AllFilled log times tasks amounts
-  filled-all {times} {tasks} {amounts} {i} g f =
-      let e : i ≡ length (askedTimes log) = omega (arith, f .inside) in
-      record {
-        roomy = f .roomy;
-        times-same = rw (← e) (f .times-same ∙ take-all i (askedTimes log) g);
-        tasks-same = rw (← e) (f .tasks-same ∙ take-all i (askedTasks log) (omega (arith, column-same log h 1 0)));
-        amounts-same = rw (← e) (f .amounts-same ∙ take-all i (askedAmounts log) (omega (arith, column-same log h 2 0)));
       }
 
   -- ---- record by record
@@ -115,5 +105,7 @@ module _ (log : List ℕ) (h : Reads log) where
         }
 
   pub going-all : {n block place i : ℕ} {times tasks amounts : List ℕ} → Going log n block place i times tasks amounts
-      → n ≤ i → AllFilled log times tasks amounts
-  going-all g l = filled-all (omega (arith, g .counted)) (g .filled)
+      → n ≤ i → Filled log n times tasks amounts
+  going-all {n} {i = i} {times} {tasks} {amounts} g l =
+      let e : n ≡ i = omega (arith, g .counted, g .filled .inside) in
+      rw e (g .filled)

@@ -1,9 +1,11 @@
 -- The text of a log: of one that reads, by its columns; of one that is refused. Assumes nothing.
 use Prim.Native.Nat.{ℕ, _≤_}
 use native.Mathlib.Omega.{arith}
-use mathlib.Core.Path.{_≡_, sym, ap}
+use mathlib.Core.Path.{_≡_, sym, ap, _∙_}
 use mathlib.Core.List.{List}
 use lib.ListN.{length, take}
+use lib.Seq.{take-all}
+use Rattle.rule.specs.Table.{mostRows}
 use Rattle.rule.specs.declared.Setup.{Setup}
 use Rattle.laws.specs.Rows.{Tabled}
 use Rattle.judging.specs.Log.{refused, judged, Reads}
@@ -11,7 +13,7 @@ use Rattle.log.specs.Records.{setupOf, askedTimes, askedTasks, askedAmounts}
 use Rattle.log.proofs.Setups.{accepted-setup}
 use Rattle.log.proofs.Rows.{column-most, column-same}
 use Rattle.text.specs.Text.{refusedLine}
-use Rattle.report.specs.Filled.{AllFilled}
+use Rattle.report.specs.Filled.{Filled}
 use Rattle.report.specs.Report.{logOutcome, rowsPrinted, printed, reportText}
 
 -- ---- a log that reads
@@ -19,8 +21,8 @@ use Rattle.report.specs.Report.{logOutcome, rowsPrinted, printed, report
 module _ (log : List ℕ) (h : Reads log) where
   module _ (p : Setup) (ts ks ms : List ℕ) (ep : p ≡ setupOf log) (et : ts ≡ askedTimes log) (ek : ks ≡ askedTasks log)
       (em : ms ≡ askedAmounts log) where
-    columns-tabled : Tabled p (length ts) (length ks) (length ms) 1_024
-    columns-tabled =
+    filled-tabled : Tabled p (length ts) (length ks) (length ms) mostRows
+    filled-tabled =
         rw (ep, et, ek, em)
         record {
           setup = accepted-setup log h;
@@ -35,9 +37,9 @@ module _ (log : List ℕ) (h : Reads log) where
     text-same = rw (ep, et, ek, em) (ap (printed log) (sym h))
 
   -- the columns that the log's rows were put into
-  module _ {times tasks amounts : List ℕ} (F : AllFilled log times tasks amounts) {n : ℕ}
+  module _ {times tasks amounts : List ℕ} {n : ℕ} (F : Filled log n times tasks amounts)
       (e : n ≡ length (askedTimes log)) where
-    room : (column : List ℕ) → length column ≡ 1_024 → n ≤ length column
+    room : (column : List ℕ) → length column ≡ mostRows → n ≤ length column
     room column f = omega (arith, column-most 0 log h)
 
     pub times-room : n ≤ length times
@@ -50,18 +52,18 @@ module _ (log : List ℕ) (h : Reads log) where
     amounts-room = room amounts (F .roomy .amounts-room)
 
     times-are : take n times ≡ askedTimes log
-    times-are = rw e (F .times-same)
+    times-are = F .times-same ∙ take-all n (askedTimes log) (omega arith)
 
     tasks-are : take n tasks ≡ askedTasks log
-    tasks-are = rw e (F .tasks-same)
+    tasks-are = F .tasks-same ∙ take-all n (askedTasks log) (omega (arith, column-same log h 1 0))
 
     amounts-are : take n amounts ≡ askedAmounts log
-    amounts-are = rw e (F .amounts-same)
+    amounts-are = F .amounts-same ∙ take-all n (askedAmounts log) (omega (arith, column-same log h 2 0))
 
     module _ {p : Setup} (ep : p ≡ setupOf log) where
-      pub log-tabled : Tabled p (length (take n times)) (length (take n tasks)) (length (take n amounts)) 1_024
+      pub log-tabled : Tabled p (length (take n times)) (length (take n tasks)) (length (take n amounts)) mostRows
       log-tabled =
-          columns-tabled p (take n times) (take n tasks) (take n amounts) ep times-are tasks-are amounts-are
+          filled-tabled p (take n times) (take n tasks) (take n amounts) ep times-are tasks-are amounts-are
 
       pub log-text : rowsPrinted p (take n times) (take n tasks) (take n amounts) ≡ reportText log
       log-text = text-same p (take n times) (take n tasks) (take n amounts) ep times-are tasks-are amounts-are

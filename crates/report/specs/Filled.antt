@@ -3,6 +3,7 @@ use Prim.Native.Nat.{ℕ, _≤_}
 use mathlib.Core.Path.{_≡_}
 use mathlib.Core.List.{List}
 use lib.ListN.{length, take}
+use Rattle.rule.specs.Table.{mostRows}
 use Rattle.log.specs.Records.{askedTimes, askedTasks, askedAmounts}
 use Rattle.log.specs.declared.Found.{Found}
 use Rattle.log.specs.declared.Found.the-variants.{Row, End}
@@ -13,11 +14,11 @@ abbrev pub recordIn : Found → Record
 recordIn (Row row) = row
 recordIn End = record { time = 0; task = 0; amount = 0 }
 
--- Three columns of 1,024 entries.
+-- Three columns with an entry for each row that a log may have.
 pub record Roomy (times tasks amounts : List ℕ) : Type 0 where
-  pub times-room : length times ≡ 1_024
-  pub tasks-room : length tasks ≡ 1_024
-  pub amounts-room : length amounts ≡ 1_024
+  pub times-room : length times ≡ mostRows
+  pub tasks-room : length tasks ≡ mostRows
+  pub amounts-room : length amounts ≡ mostRows
 
 -- The first i rows of a log stand in them.
 pub record Filled (log : List ℕ) (i : ℕ) (times tasks amounts : List ℕ) : Type 0 where
@@ -26,10 +27,3 @@ pub record Filled (log : List ℕ) (i : ℕ) (times tasks amounts : List ℕ) : 
   pub times-same : take i times ≡ take i (askedTimes log)
   pub tasks-same : take i tasks ≡ take i (askedTasks log)
   pub amounts-same : take i amounts ≡ take i (askedAmounts log)
-
--- All rows stand there.
-pub record AllFilled (log times tasks amounts : List ℕ) : Type 0 where
-  pub roomy : Roomy times tasks amounts
-  pub times-same : take (length (askedTimes log)) times ≡ askedTimes log
-  pub tasks-same : take (length (askedTimes log)) tasks ≡ askedTasks log
-  pub amounts-same : take (length (askedTimes log)) amounts ≡ askedAmounts log

@@ -6,11 +6,12 @@ use rule::Setup;
 use table::TableAnswer;
 ghost use mathlib.Core.Path.{_≡_};
 ghost use lib.ListN.{length};
+ghost use Rattle.rule.specs.Table.{mostRows};
 ghost use Rattle.laws.specs.Rows.{Tabled};
 ghost use Rattle.judging.specs.Log.{Reads};
 ghost use Rattle.log.specs.Records.{askedTimes};
 ghost use Rattle.cells.specs.Writes.{Puts};
-ghost use Rattle.report.specs.Filled.{recordIn, Roomy, AllFilled};
+ghost use Rattle.report.specs.Filled.{recordIn, Roomy, Filled};
 ghost use Rattle.report.specs.Report.{rowsPrinted, reportText};
 
 // The record that was found; zeros where there was none.
@@ -37,7 +38,7 @@ fn fill(
     requires { ⌜ Reads (now log) ⌝ }
     requires { ⌜ Roomy (now times) (now tasks) (now amounts) ⌝ }
     ensures { λ r. ⌜ r ≡ length (askedTimes (now (log .entry))) ⌝ }
-    ensures { λ r. ⌜ AllFilled (now (log .entry)) (now (times .exit)) (now (tasks .exit)) (now (amounts .exit)) ⌝ }
+    ensures { λ r. ⌜ Filled (now (log .entry)) r (now (times .exit)) (now (tasks .exit)) (now (amounts .exit)) ⌝ }
 {
     let n = log::record_count(log);
     let mut block: usize = 1;
@@ -65,7 +66,7 @@ fn put_run(
     amounts: &[u32],
     out: &mut [u8; 65536],
 ) -> usize
-    requires { ⌜ Tabled setup (length (now times)) (length (now tasks)) (length (now amounts)) 1_024 ⌝ }
+    requires { ⌜ Tabled setup (length (now times)) (length (now tasks)) (length (now amounts)) mostRows ⌝ }
     ensures { λ r. ⌜ Puts (now (out .entry)) (now (out .exit))
         (rowsPrinted setup (now (times .entry)) (now (tasks .entry)) (now (amounts .entry))) r ⌝ }
 {

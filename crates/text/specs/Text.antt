@@ -44,9 +44,13 @@ rowLines tasks asked amounts done (suc n) =
 unfoldable pub tableText : List ℕ → List ℕ → List ℕ → List ℕ → ℕ → List ℕ
 tableText tasks asked amounts done end = header ++ rowLines tasks asked amounts done (length tasks) ++ endLine end
 
--- "equally long, at most 1,024 rows", by the columns' lengths
+-- "at most 1,024 rows"
+abbrev pub mostLines : ℕ
+mostLines = 1_024
+
+-- "equally long", and not too many, by the columns' lengths
 unfoldable pub columnsFit : ℕ → ℕ → ℕ → ℕ → Bool
-columnsFit tasks asked amounts done = eqb asked tasks && eqb amounts tasks && eqb done tasks && leb tasks 1_024
+columnsFit tasks asked amounts done = eqb asked tasks && eqb amounts tasks && eqb done tasks && leb tasks mostLines
 
 -- what is put of any columns: no text of those that do not fit
 unfoldable pub columnsText : List ℕ → List ℕ → List ℕ → List ℕ → ℕ → List ℕ

@@ -1,4 +1,5 @@
-// Lines in a buffer that the caller lends. Each function puts its text at `at` and answers the place just past it.
+// Lines in a buffer that the caller lends. A function with a place `at` puts its text there and answers the place just
+// past it; the two public ones put theirs at the start.
 ghost use mathlib.Core.Path.{_≡_};
 ghost use Prim.Native.Nat.{_+_, _*_, _≤_};
 ghost use lib.ListN.{length};

@@ -4,7 +4,7 @@ use Prim.Native.Nat.{ℕ, zero, suc, _+_, _*_, _%_, _≤_, _<_}
 use native.Mathlib.Omega.{arith}
 use native.Mathlib.Nat.{add-assoc, suc-add}
 use mathlib.Core.Path.{_≡_, ap, _∙_}
-use mathlib.Core.List.{List, [], _∷_}
+use mathlib.Core.List.{List}
 use lib.ListN.{length, take, drop, List·getD-eq-default}
 use lib.Seq.{slice, getD-take, getD-drop}
 use Rattle.lists.specs.Lists.{at, total, zeros}
@@ -66,7 +66,8 @@ total-words (suc k) s =
     let w : word (drop 4 s) (4 * k) ≡ word s (4 * suc k) = word-drop 4 s (4 * k) ∙ ap (word s) e in
     rw (suc-add k 1) (omega (arith, total-words k (drop 4 s)))
 
--- wrapping addition keeps the sum modulo 2 ^ 32
+-- "wrapping u32 addition over little-endian words, tied to a sum modulo 4,294,967,296": one addition more, and all
+-- 127
 pub sum-more : (s : List ℕ) (k sum next : ℕ) → sum ≡ (total (words k s) + 1) % 4_294_967_296
     → next ≡ (sum + word s (4 * k)) % 4_294_967_296 → next ≡ (total (words (k + 1) s) + 1) % 4_294_967_296
 sum-more s k sum next h g = omega (arith, total-words k s)
@@ -74,21 +75,3 @@ sum-more s k sum next h g = omega (arith, total-words k s)
 pub sum-check : (s : List ℕ) (k sum : ℕ) → sum ≡ (total (words k s) + 1) % 4_294_967_296 → k ≡ 127 → sum ≡ check s
 unfolding check
 sum-check s k sum h e = rw e at h
-
--- ---- wrapping sums
-
--- the words added to a sum one by one, each time modulo 2 ^ 32
-pub wrapped : List ℕ → ℕ → ℕ
-wrapped [] sum = sum
-wrapped (w ∷ ws) sum = wrapped ws ((sum + w) % 4_294_967_296)
-
-pub wrapped-total : (ws : List ℕ) (sum : ℕ) → sum < 4_294_967_296 → wrapped ws sum ≡ (total ws + sum) % 4_294_967_296
-unfolding wrapped total
-wrapped-total [] sum h = omega arith
-wrapped-total (w ∷ ws) sum h =
-    wrapped-total ws ((sum + w) % 4_294_967_296) (omega arith) ∙ omega arith
-
--- "wrapping u32 addition over little-endian words, tied to a sum modulo 4,294,967,296"
-pub wrapped-check : (block : List ℕ) → wrapped (words 127 block) 1 ≡ check block
-unfolding check
-wrapped-check block = wrapped-total (words 127 block) 1 (omega arith)

@@ -6,7 +6,7 @@ use borrow.Author.Needs.{needs}
 use denote.Ref.{now}
 use Rattle.judging.specs.Log.{accepted, judged, told}
 use Rattle.log.proofs.Rows.{column-most}
-use Rattle.judging.proofs.Refused.{refused-small}
+use Rattle.judging.proofs.Unique.{refused-small}
 use Rattle.face.specs.Face.{verdictFace}
 use Rattle.face.proofs.verdict_on.Statement.{statement}
 use Rattle.face.proofs.verdict_on.Tie as tie

@@ -11,7 +11,7 @@ use lib.ListN.{length}
 use Rattle.judging.specs.Blocks.{blocks}
 use Rattle.log.specs.Records.{askedTimes}
 use Rattle.places.specs.Places.{rowNumber, PlaceOf}
-use Rattle.places.proofs.Places.{has-row-zero, has-row-past, has-row-counted, has-row-over, block-few}
+use Rattle.places.proofs.Places.{has-row-zero, has-row-past, row-number-counted, has-row-over, block-few}
 use Rattle.places.proofs.Places.{taken-none, RowRead, row-read, taken-last, taken-next}
 use Rattle.places.proofs.take_at.Statement.{statement}
 use Rattle.places.proofs.take_at.Tie as tie
@@ -42,7 +42,7 @@ row : (c : tie.Else3)
     → let p = c .before .before in rowNumber (blockAt p) (recordAt p) < length (askedTimes (logAt p))
 row c =
     let p = c .before .before in
-    has-row-counted _ _ _ (low p) (reached p) (inside p) (omega (arith, c .if3 .left, c .before .word-at .ensures))
+    row-number-counted _ _ _ (low p) (reached p) (inside p) (omega (arith, c .if3 .left, c .before .word-at .ensures))
 
 read : (c : tie.After-word-at4)
     → let p = c .before .before .before .before .before in

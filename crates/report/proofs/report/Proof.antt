@@ -5,7 +5,7 @@ use mathlib.Core.Path.{sym, ap, _∙_}
 use borrow.Author.Needs.{needs}
 use Rattle.judging.specs.Log.{told}
 use Rattle.cells.proofs.Writing.{wrote-same-upto}
-use Rattle.judging.proofs.Refused.{refused-small}
+use Rattle.judging.proofs.Unique.{refused-small}
 use Rattle.report.proofs.Logs.{refused-text}
 use Rattle.report.proofs.report.Statement.{statement}
 use Rattle.report.proofs.report.Tie as tie

@@ -16,7 +16,7 @@ use Rattle.judging.specs.Blocks.{block, recordsTo, firstUnused}
 use Rattle.judging.specs.Log.{refused, blockRefusal, judgedFrom}
 use Rattle.judging.proofs.Blocks.{records-zero, records-full}
 use Rattle.judging.proofs.Judging.{part-block, length-part, Before, headRefusal, refusal-head, head-counts}
-use Rattle.judging.proofs.Judging.{refusal-byte, refusal-setup, setup-first, judged-good, judged-refused}
+use Rattle.judging.proofs.Judging.{refusal-byte, refusal-setup, judged-good, judged-refused}
 use Rattle.judging.proofs.Judging.{judged-end}
 use Rattle.judging.proofs.search.judge_blocks.Statement.{statement}
 use Rattle.judging.proofs.search.judge_blocks.Tie as tie
@@ -70,7 +70,7 @@ whole : (c : Begun) → 508 ≤ length (partAt c)
 whole c = omega (arith, length-part (logAt c) (placeAt c) (omega arith))
 
 abbrev Known : Type 0
-Known = tie.After-setup-refusal-at Inv-bytes μ-bytes Inv-search μ-search
+Known = tie.After-setup-refusal-in Inv-bytes μ-bytes Inv-search μ-search
 
 abbrev begunAt : Known → Begun
 begunAt c = c .before .before .before .before .before .before .before
@@ -110,15 +110,14 @@ unused c =
 -- a block whose bytes are right is refused as its setup is
 refused-as : (c : tie.After-bytes Inv-bytes μ-bytes Inv-search μ-search)
     → blockRefusal (logAt (begunBy (c .before .before))) (placeAt (begunBy (c .before .before)))
-    ≡ c .before .before .before .before .before .setup-refusal-at .result
+    ≡ c .before .before .before .before .before .setup-refusal-in .result
 refused-as c =
     let h = c .before .before .before .before in
     let e = begunAt (h .before) in
     refusal-setup (judged-before e) (part-is e) (headed h)
     (unused (c .before .before) ∙ c .before .bytes .inv
     ∙ zeros-slice-past 508 (partAt e) (c .before .bytes .at) (whole e) (c .bytes-test .left))
-    ∙ rw (part-is e) (setup-first (logAt e) (placeAt e))
-    ∙ sym (h .before .setup-refusal-at .ensures)
+    ∙ sym (h .before .setup-refusal-in .ensures)
 
 search-holds : tie.Need-search-holds Inv-bytes μ-bytes Inv-search μ-search
 search-holds c = (search needs, rw sub-zero, λ h. records-zero _)
@@ -168,7 +167,7 @@ returns-3 c =
 returns-4 : tie.Need-returns-4 Inv-bytes μ-bytes Inv-search μ-search
 returns-4 c =
     let k = c .before .before .before .before .before .before in
-    stopped (begunAt k) (k .setup-refusal-at .result) (refused-as (c .before)) (c .if4 .taken)
+    stopped (begunAt k) (k .setup-refusal-in .result) (refused-as (c .before)) (c .if4 .taken)
 
 pub judge-blocks-spec : {M : Type 1} → statement M
 judge-blocks-spec =
