@@ -2,14 +2,21 @@
  *
  * Link with libdesk.a, which `rt staticlib desk` writes to target/staticlib/ (x86-64 Linux, System V calls).
  *
- * A run is a plain value: every call takes the run by value and gives back the run afterwards. A refused call gives back the
- * very run that was passed, byte for byte. Each function takes every number and every length; none waits, allocates or
- * keeps anything. The run passed in must be one that a setup gave, or a call on such a run; nothing else is asked of a
- * caller, and nothing is promised for a run made up by hand.
+ * A tick is one millisecond of the controller's counter; times are ticks since the log's start.
  *
- * A caller that keeps one run has the same calls in place: anduri_request_in and the others with _in move the run behind a
- * pointer and give the refusal alone, and the readings with _of take a pointer to the run. Answers and runs are those of the
- * calls by value, byte for byte. The pointer is not null, and no other thread uses the run during the call.
+ * A run is a plain value. Calls and readings take it by value, and a call gives back the run afterwards. A caller that
+ * keeps one run has the same in place: those with _in move the run behind a pointer and give the refusal alone, and
+ * those with _of read it there. Answers and runs are those by value, byte for byte. A refused call gives back, or
+ * leaves, the very run that was passed, byte for byte. Each function takes every number and every length; none waits,
+ * allocates or keeps anything.
+ *
+ * This is asked of a caller:
+ *  - A run passed in is one that a setup gave, or a call on such a run; anduri_setup_in alone takes any. Nothing is
+ *    promised for a run made up by hand.
+ *  - No pointer is null, and behind it stand as many elements as are said; where these are none, it may be any pointer
+ *    that is not null.
+ *  - What is written (the result column, out, a run in place) overlaps nothing else that is passed.
+ *  - During a call no other thread writes what is passed, or reads what is written.
  *
  * Refusal numbers (0: accepted):
  *    1  policy not 1 or 2                          20  columns of unequal length
@@ -23,7 +30,7 @@
  *   13  amount 0 or above 1,000,000
  *   14  task still open at that time
  *
- * A pointer to no elements may be any pointer that is not null. The result column must not overlap another column.
+ * 34, a record block asked for that the log does not have, is given by the Rattle call block_refusal alone.
  */
 #ifndef ANDURI_H
 #define ANDURI_H
@@ -67,7 +74,7 @@ typedef struct anduri_moved {
  * one task), on which calls may be made. */
 anduri_moved anduri_setup(uint32_t policy, uint32_t count, uint32_t slice, const uint8_t *priorities, size_t length);
 
-/* Moves the clock to the time and opens the task with this amount of ticks. Refused 10, 11, 12, 13, 14 in that order. */
+/* Moves the clock to the time and opens the task with this amount of ticks. Refused 10 to 14 in that order. */
 anduri_moved anduri_request(anduri_run run, uint32_t time, uint32_t task, uint32_t amount);
 
 /* Moves the clock to the time. Refused 10, 11. */
@@ -85,11 +92,11 @@ anduri_moved anduri_drain(anduri_run run);
  *         anduri_request_in(&run, 0, 0, 5);
  */
 
-/* Makes the run a fresh one of this setup. Refused 1 to 4 in that order, 4 for a byte not zero that must be. The run need not
- * have been set up before; where it was not, a refusal leaves nothing on which a call may be made. */
+/* Makes the run a fresh one of this setup. Refused 1 to 4 in that order, 4 for a byte not zero that must be. The run
+ * need not have been set up before; where it was not, a refusal leaves nothing on which a call may be made. */
 uint32_t anduri_setup_in(anduri_run *run, anduri_setup_numbers setup);
 
-/* Moves the clock to the time and opens the task with this amount of ticks. Refused 10, 11, 12, 13, 14 in that order. */
+/* Moves the clock to the time and opens the task with this amount of ticks. Refused 10 to 14 in that order. */
 uint32_t anduri_request_in(anduri_run *run, uint32_t time, uint32_t task, uint32_t amount);
 
 /* Moves the clock to the time. Refused 10, 11. */
@@ -140,8 +147,8 @@ typedef struct anduri_outcome {
     uint32_t end;
 } anduri_outcome;
 
-/* Requests the rows in order on a fresh run, then drains. Entry i of the result becomes row i's completion time; entries
- * past the rows stay, and a refusal writes none. Each length is in elements. */
+/* Requests the rows in order on a fresh run, then drains. Entry i of the result becomes row i's completion time;
+ * entries past the rows stay, and a refusal writes none. Each length is in elements. */
 anduri_outcome anduri_table(uint32_t policy, uint32_t count, uint32_t slice,
                             const uint8_t *priorities, size_t priorities_length,
                             const uint32_t *times, size_t times_length,
@@ -151,7 +158,7 @@ anduri_outcome anduri_table(uint32_t policy, uint32_t count, uint32_t slice,
 
 /* ---- logs */
 
-/* What a log is judged to be: its refusal, or 0; the block for 31 to 33, else 0; how many records it has, 0 if refused. */
+/* What a log is judged to be: its refusal, or 0; the block for 31 to 33, else 0; how many records, 0 if refused. */
 typedef struct anduri_verdict {
     uint32_t refusal;
     uint32_t place;
@@ -163,8 +170,8 @@ anduri_verdict anduri_judge(const uint8_t *log, size_t length);
 /* Room that anduri_report asks for. */
 #define ANDURI_REPORT_ROOM 65536
 
-/* Puts all that the program prints for a log at the start of out, ANDURI_REPORT_ROOM bytes, and gives how many bytes it is;
- * the bytes behind stay. */
+/* Puts all that the program prints for a log at the start of out, ANDURI_REPORT_ROOM bytes, and gives how many
+ * bytes it is; the bytes behind stay. */
 size_t anduri_report(const uint8_t *log, size_t length, uint8_t *out);
 
 #ifdef __cplusplus

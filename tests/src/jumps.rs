@@ -10,7 +10,7 @@ use std::collections::{BTreeSet, VecDeque};
 
 pub struct Jumps;
 
-#[derive(Clone, Debug)]
+#[derive(Clone, Debug, PartialEq, Eq)]
 enum Line {
     /// The open tasks of priority, the one to be served first.
     Ranked(BTreeSet<(Reverse<u8>, u32)>),
@@ -18,7 +18,7 @@ enum Line {
     Turns { queue: VecDeque<u32>, left: u32 },
 }
 
-#[derive(Clone, Debug)]
+#[derive(Clone, Debug, PartialEq, Eq)]
 pub struct Run {
     setup: Setup,
     clock: u32,

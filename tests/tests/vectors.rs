@@ -57,8 +57,7 @@ fn library_prints_them() {
 
 /// What the program prints for input that comes through a pipe, in these pieces.
 fn piped(program: &Path, pieces: &[&[u8]]) -> String {
-    let mut child =
-        run(program).stdin(Stdio::piped()).stdout(Stdio::piped()).spawn().expect("the program starts");
+    let mut child = run(program).stdin(Stdio::piped()).stdout(Stdio::piped()).spawn().expect("the program starts");
     let mut input = child.stdin.take().unwrap();
     for piece in pieces {
         // The program may stop reading once the input is too long.
@@ -71,12 +70,17 @@ fn piped(program: &Path, pieces: &[&[u8]]) -> String {
     String::from_utf8(child.wait_with_output().unwrap().stdout).unwrap()
 }
 
+/// A test whose other half is missing compares nothing. That passes only where the library is not named either.
+fn nothing_compared(reason: &str) {
+    assert!(!cfg!(anduri_lib), "ANDURI_LIB names the library, and {reason}");
+    println!("{reason}: nothing compared");
+}
+
 /// The printing program named by ANDURI_PROGRAM, on files, through a pipe in pieces, and on input that is too long.
 #[test]
 fn program_prints_them() {
     let Some(program) = std::env::var_os("ANDURI_PROGRAM").filter(|path| !path.is_empty()) else {
-        println!("ANDURI_PROGRAM names no program: nothing compared");
-        return;
+        return nothing_compared("ANDURI_PROGRAM names no program");
     };
     let program = Path::new(env!("CARGO_MANIFEST_DIR")).join("..").join(program);
     for vector in vectors() {
@@ -109,8 +113,7 @@ fn make_log_writes_case_a() {
     let made = Path::new(env!("CARGO_TARGET_TMPDIR")).join("case_a.log");
     let script = [examples.join("make_log.py"), examples.join("case_a.txt"), made.clone()];
     let Ok(status) = Command::new("python3").args(script).status() else {
-        println!("python3 does not start: nothing compared");
-        return;
+        return nothing_compared("python3 does not start");
     };
     assert!(status.success());
     assert!(fs::read(made).unwrap() == fs::read(folder().join("case_a.log")).unwrap());

@@ -2,7 +2,6 @@
 
 use anduri_tests::compare::{self, readings};
 use anduri_tests::gen::{damage, log_of, CallCase, Damage, TableCase};
-use anduri_tests::jumps::Jumps;
 use anduri_tests::oracle::{self, record_block, Oracle};
 use anduri_tests::vectors::{damaged, single_ticks, whole_log};
 use anduri_tests::worked::{both, worked};
@@ -228,15 +227,6 @@ fn logs<R: Replay>(replay: &R) {
         let expected = if number < 30 && number > 4 { Ok(()) } else { Err(each.refusal) };
         assert_eq!(replay.judge(&log).map(|_| ()), expected, "{}", each.name);
     }
-    // Every byte of a log, changed alone: 31 at its block; with the check repaired, what the oracle says.
-    for at in 0..whole.len() {
-        let block = at / 512;
-        let mut log = whole.clone();
-        damage(&mut log, &Damage::Byte { block, at: at % 512, add: 1 });
-        assert_eq!(replay.judge(&log), Err(Refusal::at(31, block)), "byte {at}");
-        damage(&mut log, &Damage::Repair);
-        compare::log(replay, &Oracle, &log).unwrap();
-    }
     for (count, answer) in
         [(0, Ok(0)), (1, Ok(1)), (41, Ok(41)), (42, Ok(42)), (1_024, Ok(1_024)), (1_025, Err(Refusal::at(33, 25)))]
     {
@@ -251,6 +241,40 @@ fn logs<R: Replay>(replay: &R) {
     assert_eq!(replay.report(&[]), b"refused 30 at 0\n");
     assert_eq!(replay.report(&vec![0; 13_824]), b"refused 30 at 0\n");
     assert_eq!(replay.report(&vec![0; 512]), b"refused 31 at 0\n");
+}
+
+/// A refused call leaves the whole state as it was, not only the readings.
+fn refused_calls_change_no_run<R: Replay>(replay: &R)
+where
+    R::Run: std::fmt::Debug + PartialEq,
+{
+    for setup in [Setup::round_robin(2, 2), Setup::priority(&[7, 7])] {
+        let mut run = replay.setup(&setup).unwrap();
+        replay.request(&mut run, row(0, 0, 9)).unwrap();
+        replay.advance(&mut run, 2).unwrap();
+        let before = run.clone();
+        let refused = [
+            (Call::Request(row(LAST_TIME + 1, 0, 1)), 10),
+            (Call::Request(row(1, 0, 1)), 11),
+            (Call::Request(row(3, 2, 1)), 12),
+            (Call::Request(row(3, 1, 0)), 13),
+            (Call::Request(row(3, 1, 1_000_001)), 13),
+            (Call::Request(row(4, 0, 1)), 14),
+            (Call::Request(row(8, 0, 1)), 14),
+            (Call::Advance(LAST_TIME + 1), 10),
+            (Call::Advance(1), 11),
+        ];
+        for (call, number) in refused {
+            assert_eq!(replay.call(&mut run, call), Err(number), "{call:?}");
+            assert_eq!(run, before, "{call:?}");
+        }
+        let mut calls = vec![Call::Request(row(0, 0, 9)), Call::Advance(2)];
+        calls.extend(refused.map(|(call, _)| call));
+        compare::calls(replay, &Oracle, &CallCase { setup, calls }).unwrap();
+        // At 9 the task is done, and so not open.
+        replay.request(&mut run, row(9, 0, 1)).unwrap();
+        assert_ne!(run, before);
+    }
 }
 
 macro_rules! each_replay {
@@ -276,6 +300,10 @@ macro_rules! each_replay {
             fn logs() {
                 super::logs(&$replay);
             }
+            #[test]
+            fn refused_calls_change_no_run() {
+                super::refused_calls_change_no_run(&$replay);
+            }
         }
     };
 }
@@ -284,10 +312,12 @@ each_replay!(oracle_itself, anduri_tests::oracle::Oracle);
 each_replay!(jumps, anduri_tests::jumps::Jumps);
 #[cfg(anduri_lib)]
 each_replay!(library, anduri_tests::face::Library);
+#[cfg(anduri_lib)]
+each_replay!(library_in_place, anduri_tests::kept::Kept);
 
 /// The whole log is judged before 34, and the used records are a stretch of the log.
 #[test]
-fn record_blocks() {
+fn oracle_record_blocks() {
     let (setup, rows_60) = whole_log();
     let mut log = log_of(&setup, &rows_60);
     assert_eq!(record_block(&log, 1), Ok(520..520 + 492));
@@ -304,25 +334,8 @@ fn record_blocks() {
 
 /// One is added once.
 #[test]
-fn the_check() {
+fn oracle_check() {
     assert_eq!(oracle::check_of(&[0; 512]), 1);
     let ones = vec![0xFF; 512];
     assert_eq!(oracle::check_of(&ones), 1u32.wrapping_sub(127));
-}
-
-/// A refused call leaves the oracle's whole state as it was, not only the readings.
-#[test]
-fn refused_calls_change_no_run() {
-    let mut run = Oracle.setup(&Setup::round_robin(2, 2)).unwrap();
-    Oracle.request(&mut run, row(0, 0, 9)).unwrap();
-    Oracle.advance(&mut run, 2).unwrap();
-    let before = run.clone();
-    let calls =
-        [row(LAST_TIME + 1, 0, 1), row(1, 0, 1), row(3, 2, 1), row(3, 1, 0), row(3, 1, 1_000_001), row(4, 0, 1)];
-    for (row, number) in calls.into_iter().zip([10, 11, 12, 13, 13, 14]) {
-        assert_eq!(Oracle.call(&mut run, Call::Request(row)), Err(number));
-        assert_eq!(run, before);
-    }
-    let case = CallCase { setup: before.setup.clone(), calls: calls.into_iter().map(Call::Request).collect() };
-    compare::calls(&Jumps, &Oracle, &case).unwrap();
 }
