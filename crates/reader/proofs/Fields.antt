@@ -42,9 +42,9 @@ use Rattle.reader.specs.Reading.{Standing}
 use Rattle.reader.specs.declared.Reader.{Reader}
 use Rattle.reader.proofs.Reader as T
 use Rattle.reader.proofs.Reader.Laws as T′
-use Rattle.reader.proofs.Walks.{answers, gone}
-use Rattle.reader.proofs.Take as core
-use Rattle.reader.proofs.Take.{B, lasting, Core}
+use Rattle.walk_laws.proofs.Steps.{answers, gone}
+use Rattle.reader.proofs.Walks as core
+use Rattle.reader.proofs.Walks.{B, lasting, Core}
 
 module _ (R : Data) (Said : List ℕ → ℕ → ℕ → R .type .Denot → Type 0) where
   abbrev pub signature : Signature

@@ -1,6 +1,5 @@
 pub mod Steps
 pub mod Unique
 mod Walks
-mod Take
 mod Fields
 mod Slices

@@ -35,7 +35,7 @@ use Rattle.judging.proofs.Judged as E
 use Rattle.judging.proofs.Judged.Laws as E′
 use Rattle.reader.proofs.Opened as O
 use Rattle.walk_laws.proofs.Data.{Data, enum}
-use Rattle.reader.proofs.Take.{slice-of, SliceOwn, lasting}
+use Rattle.reader.proofs.Walks.{slice-of, SliceOwn, lasting}
 
 module _ (R : Lfts 1 → RattleType) (Said : (κs : Lfts 1) → RefT (List ℕ) → R κs .Denot → Type 0) where
   abbrev pub signature : Signature

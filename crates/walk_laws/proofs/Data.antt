@@ -80,10 +80,13 @@ enum T L plain few last silent =
       silent = silent;
     }
 
--- at the machine value that a call returned
+-- what is known at the machine value that a call gave is known at the one that the type tells
+pub known-at : (R : Data) (x : R .type .Denot) (v : Val) → Is (R .type) x (v ∷ []) → Is (R .type) x (R .val x ∷ [])
+known-at R x v is = subst (Is (R .type) x) (R .tells x (v ∷ []) is) is
+
+-- at the machine value that a call gave
 pub typed-at : (R : Data) {M : Type 1} (𝓤 : URA M) (H : Heap 𝓤) (A : Atoms 𝓤) → Given 𝓤 H A → (x : R .type .Denot)
     (v : Val) → Is (R .type) x (v ∷ []) → Holds (hasTy (R .mir) v) × WT v
 typed-at R 𝓤 H A W x v is =
-    let e : v ∷ [] ≡ R .val x ∷ [] = R .tells x (v ∷ []) is in
-    subst⁻¹ (λ (us : List Val). Holds (hasTy (R .mir) (only us)) × WT (only us)) e
-    (R .typed 𝓤 H A W x (subst (Is (R .type) x) e is))
+    subst⁻¹ (λ (us : List Val). Holds (hasTy (R .mir) (only us)) × WT (only us)) (R .tells x (v ∷ []) is)
+    (R .typed 𝓤 H A W x (known-at R x v is))

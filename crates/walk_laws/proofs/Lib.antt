@@ -4,6 +4,7 @@ pub mod Answered
 pub mod Parameters
 mod Passing
 pub mod Calling
+pub mod Steps
 pub mod Lying
 pub mod InPlace
 pub mod Peek

@@ -44,9 +44,9 @@ use Rattle.reader.proofs.Reader as T
 use Rattle.reader.proofs.Reader.Laws as T′
 use Rattle.log.proofs.Found as S
 use Rattle.log.proofs.Found.Laws as S′
-use Rattle.walk_laws.proofs.Data.{typed-at}
-use Rattle.reader.proofs.Walks.{answers, gone}
-use Rattle.reader.proofs.Take.{B, slice-of, SliceOwn, known-at, foundData, Finds}
+use Rattle.walk_laws.proofs.Data.{known-at, typed-at}
+use Rattle.walk_laws.proofs.Steps.{answers, gone}
+use Rattle.reader.proofs.Walks.{B, slice-of, SliceOwn, foundData, Finds}
 use Rattle.reader.proofs.Slices as on
 use Rattle.reader.proofs.Slices.{openedRow, Opens, judgedData}
 use Rattle.reader.proofs.Fields as peek

@@ -48,9 +48,9 @@ use Rattle.reader.proofs.Reader.Laws as T′
 use Rattle.walk_laws.proofs.Calling.{by-walk}
 use Rattle.walk_laws.proofs.Data.{typed-at}
 use Rattle.log.proofs.Found as S
-use Rattle.reader.proofs.Walks.{answers, gone}
-use Rattle.reader.proofs.Take as calls
-use Rattle.reader.proofs.Take.{B, Core, foundData, takenData, Takes, found-is, block-fits, record-fits}
+use Rattle.walk_laws.proofs.Steps.{answers, gone}
+use Rattle.reader.proofs.Walks as calls
+use Rattle.reader.proofs.Walks.{B, Core, foundData, takenData, Takes, found-is, block-fits, record-fits}
 use Rattle.places.proofs.Taken as D
 use Rattle.places.proofs.Taken.Laws as D′
 use Rattle.places.proofs.take_at.Symbol as take-def

@@ -40,8 +40,8 @@ use Rattle.reader.proofs.Opened.Laws as O′
 use Rattle.reader.proofs.Reader as T
 use Rattle.reader.proofs.Reader.Laws as T′
 use Rattle.walk_laws.proofs.Calling.{over}
-use Rattle.reader.proofs.Walks.{answers, gone}
-use Rattle.reader.proofs.Take.{B, slice-of, SliceOwn, reader-own}
+use Rattle.walk_laws.proofs.Steps.{answers, gone}
+use Rattle.reader.proofs.Walks.{B, slice-of, SliceOwn, reader-own}
 use Rattle.reader.proofs.Slices.{On, Enters, Post, to, goes, said, exits, by-walk, openedRow, Opens}
 use Rattle.reader.proofs.Slices.{judgedData}
 use Rattle.walk_laws.proofs.Data.{Data, struct, typed-at}

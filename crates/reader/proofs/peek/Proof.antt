@@ -1,5 +1,5 @@
 -- `reader::peek` meets its contract: by the law of Fields, from what `found_at` ensures. Assumes nothing.
-use Rattle.reader.proofs.Take.{foundData, Finds}
+use Rattle.reader.proofs.Walks.{foundData, Finds}
 use Rattle.reader.proofs.Fields.{thin}
 use Rattle.places.proofs.found_at.Symbol as by-fields
 use Rattle.places.proofs.found_at.Met.{met}

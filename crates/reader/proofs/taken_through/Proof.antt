@@ -48,11 +48,11 @@ use Rattle.reader.proofs.Reader.Laws as T′
 use Rattle.log.proofs.Found as S
 use Rattle.log.proofs.Found.Laws as S′
 use Rattle.walk_laws.proofs.Calling.{over}
-use Rattle.walk_laws.proofs.Data.{typed-at}
+use Rattle.walk_laws.proofs.Data.{known-at, typed-at}
 use Rattle.walk_laws.proofs.Lying.{held-in, lies-out}
-use Rattle.reader.proofs.Walks.{gone}
-use Rattle.reader.proofs.Take.{slice-of, SliceOwn, FieldsOwn, reader-own, Core, Enters, machine, Post, exits}
-use Rattle.reader.proofs.Take.{by-walk, known-at, foundData, takenData, Takes}
+use Rattle.walk_laws.proofs.Steps.{gone}
+use Rattle.reader.proofs.Walks.{slice-of, SliceOwn, FieldsOwn, reader-own, Core, Enters, machine, Post, exits}
+use Rattle.reader.proofs.Walks.{by-walk, foundData, takenData, Takes}
 use Rattle.places.proofs.Taken as D
 use Rattle.places.proofs.Taken.Laws as D′
 use Rattle.reader.proofs.next as next
