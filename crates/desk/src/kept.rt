@@ -1,7 +1,7 @@
 // The calls and readings on a run that a caller keeps: each promises of the run before and after what the call by
 // value does, and a refused call leaves the very run.
-use face::NextDone;
-use face::Read;
+use face::NextFace;
+use face::ReadFace;
 use rule::Run;
 use rule::Setup;
 ghost use mathlib.Core.Path.{_≡_};
@@ -78,7 +78,7 @@ pub extern "C" fn anduri_idle_of(run: &Run) -> u32
 }
 
 #[no_mangle]
-pub extern "C" fn anduri_owed_of(run: &Run, task: u32) -> Read
+pub extern "C" fn anduri_owed_of(run: &Run, task: u32) -> ReadFace
     requires { ⌜ MadeRun (now run) ⌝ }
     ensures { λ r. ⌜ r ≡ readFace (owedOf (view (now (run .entry))) task) ⌝ }
 {
@@ -86,7 +86,7 @@ pub extern "C" fn anduri_owed_of(run: &Run, task: u32) -> Read
 }
 
 #[no_mangle]
-pub extern "C" fn anduri_given_of(run: &Run, task: u32) -> Read
+pub extern "C" fn anduri_given_of(run: &Run, task: u32) -> ReadFace
     requires { ⌜ MadeRun (now run) ⌝ }
     ensures { λ r. ⌜ r ≡ readFace (givenOf (view (now (run .entry))) task) ⌝ }
 {
@@ -94,7 +94,7 @@ pub extern "C" fn anduri_given_of(run: &Run, task: u32) -> Read
 }
 
 #[no_mangle]
-pub extern "C" fn anduri_completed_of(run: &Run, task: u32) -> Read
+pub extern "C" fn anduri_completed_of(run: &Run, task: u32) -> ReadFace
     requires { ⌜ MadeRun (now run) ⌝ }
     ensures { λ r. ⌜ r ≡ readFace (completedOf (view (now (run .entry))) task) ⌝ }
 {
@@ -102,7 +102,7 @@ pub extern "C" fn anduri_completed_of(run: &Run, task: u32) -> Read
 }
 
 #[no_mangle]
-pub extern "C" fn anduri_next_of(run: &Run) -> NextDone
+pub extern "C" fn anduri_next_of(run: &Run) -> NextFace
     requires { ⌜ MadeRun (now run) ⌝ }
     ensures { λ r. ⌜ r ≡ nextFace (nextDone (view (now (run .entry)))) ⌝ }
 {

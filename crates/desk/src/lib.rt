@@ -1,10 +1,10 @@
 // The C face, described in include/anduri.h: each function is a call of a proved one, with plain numbers for its
 // answer.
-use face::Move;
-use face::NextDone;
-use face::Outcome;
-use face::Read;
-use face::Verdict;
+use face::MoveFace;
+use face::NextFace;
+use face::OutcomeFace;
+use face::ReadFace;
+use face::VerdictFace;
 use rule::Run;
 ghost use mathlib.Core.Path.{_≡_};
 ghost use lib.ListN.{length};
@@ -25,18 +25,18 @@ pub mod kept;
 // ---- runs
 
 #[no_mangle]
-pub extern "C" fn anduri_setup(policy: u32, count: u32, slice: u32, priorities: &[u8]) -> Move
+pub extern "C" fn anduri_setup(policy: u32, count: u32, slice: u32, priorities: &[u8]) -> MoveFace
     ensures { λ r. ⌜ Started (asked policy count slice (now (priorities .entry))) (r .refusal) (r .run) ⌝ }
 {
     let start = replay::start::setup(policy, count, slice, priorities);
     let answer = start.answer;
     let refusal = face::setup_number(answer);
     let run = start.run;
-    Move { refusal, run }
+    MoveFace { refusal, run }
 }
 
 #[no_mangle]
-pub extern "C" fn anduri_request(run: Run, time: u32, task: u32, amount: u32) -> Move
+pub extern "C" fn anduri_request(run: Run, time: u32, task: u32, amount: u32) -> MoveFace
     requires { ⌜ MadeRun run ⌝ }
     ensures { λ r. ⌜ Promised run (request time task amount) (r .refusal) (r .run) ⌝ }
 {
@@ -44,7 +44,7 @@ pub extern "C" fn anduri_request(run: Run, time: u32, task: u32, amount: u32) ->
 }
 
 #[no_mangle]
-pub extern "C" fn anduri_advance(run: Run, time: u32) -> Move
+pub extern "C" fn anduri_advance(run: Run, time: u32) -> MoveFace
     requires { ⌜ MadeRun run ⌝ }
     ensures { λ r. ⌜ Promised run (advance time) (r .refusal) (r .run) ⌝ }
 {
@@ -52,7 +52,7 @@ pub extern "C" fn anduri_advance(run: Run, time: u32) -> Move
 }
 
 #[no_mangle]
-pub extern "C" fn anduri_drain(run: Run) -> Move
+pub extern "C" fn anduri_drain(run: Run) -> MoveFace
     requires { ⌜ MadeRun run ⌝ }
     ensures { λ r. ⌜ Promised run drain (r .refusal) (r .run) ⌝ }
 {
@@ -82,7 +82,7 @@ pub extern "C" fn anduri_idle(run: Run) -> u32
 }
 
 #[no_mangle]
-pub extern "C" fn anduri_owed(run: Run, task: u32) -> Read
+pub extern "C" fn anduri_owed(run: Run, task: u32) -> ReadFace
     requires { ⌜ MadeRun run ⌝ }
     ensures { λ r. ⌜ r ≡ readFace (owedOf (view run) task) ⌝ }
 {
@@ -90,7 +90,7 @@ pub extern "C" fn anduri_owed(run: Run, task: u32) -> Read
 }
 
 #[no_mangle]
-pub extern "C" fn anduri_given(run: Run, task: u32) -> Read
+pub extern "C" fn anduri_given(run: Run, task: u32) -> ReadFace
     requires { ⌜ MadeRun run ⌝ }
     ensures { λ r. ⌜ r ≡ readFace (givenOf (view run) task) ⌝ }
 {
@@ -98,7 +98,7 @@ pub extern "C" fn anduri_given(run: Run, task: u32) -> Read
 }
 
 #[no_mangle]
-pub extern "C" fn anduri_completed(run: Run, task: u32) -> Read
+pub extern "C" fn anduri_completed(run: Run, task: u32) -> ReadFace
     requires { ⌜ MadeRun run ⌝ }
     ensures { λ r. ⌜ r ≡ readFace (completedOf (view run) task) ⌝ }
 {
@@ -106,7 +106,7 @@ pub extern "C" fn anduri_completed(run: Run, task: u32) -> Read
 }
 
 #[no_mangle]
-pub extern "C" fn anduri_next(run: Run) -> NextDone
+pub extern "C" fn anduri_next(run: Run) -> NextFace
     requires { ⌜ MadeRun run ⌝ }
     ensures { λ r. ⌜ r ≡ nextFace (nextDone (view run)) ⌝ }
 {
@@ -125,7 +125,7 @@ pub extern "C" fn anduri_table(
     tasks: &[u32],
     amounts: &[u32],
     result: &mut [u32],
-) -> Outcome
+) -> OutcomeFace
     ensures { λ r. ⌜ FaceAnswers
         (table (asked policy count slice (now (priorities .entry))) (now (times .entry)) (now (tasks .entry))
         (now (amounts .entry)) (length (now (result .entry))))
@@ -145,7 +145,7 @@ pub extern "C" fn anduri_table(
 }
 
 #[no_mangle]
-pub extern "C" fn anduri_judge(log: &[u8]) -> Verdict
+pub extern "C" fn anduri_judge(log: &[u8]) -> VerdictFace
     ensures { λ r. ⌜ r ≡ verdictFace (now (log .entry)) (judged (now (log .entry))) ⌝ }
 {
     face::verdict_on(log)

@@ -6,7 +6,7 @@ use mathlib.Core.List.{List}
 use mir.Syntax.{w32}
 use denote.Struct.Laws as LL
 use Rattle.rule.specs.Calls.{Call}
-use Rattle.rule.specs.Table as rule
+use Rattle.rule.specs.Table.{Outcome}
 use Rattle.rule.specs.View.{Promised}
 use Rattle.rule.specs.declared.Run.{Run}
 use Rattle.rule.proofs.Run as T
@@ -18,20 +18,20 @@ use Rattle.table.specs.declared.TableAnswer.{TableAnswer}
 use Rattle.walk_laws.proofs.Answered.{Answered}
 use Rattle.walk_laws.proofs.Data.{Data, number, struct}
 use Rattle.face.specs.Face.{moveFace, outcomeFace, FaceAnswers}
-use Rattle.face.specs.declared.Move.{Move}
-use Rattle.face.specs.declared.Outcome.{Outcome}
-use Rattle.face.proofs.Move as M
-use Rattle.face.proofs.Move.Laws as M′
-use Rattle.face.proofs.Read as R
-use Rattle.face.proofs.Read.Laws as R′
-use Rattle.face.proofs.NextDone as N
-use Rattle.face.proofs.NextDone.Laws as N′
+use Rattle.face.specs.declared.MoveFace.{MoveFace}
+use Rattle.face.specs.declared.OutcomeFace.{OutcomeFace}
+use Rattle.face.proofs.MoveFace as M
+use Rattle.face.proofs.MoveFace.Laws as M′
+use Rattle.face.proofs.ReadFace as R
+use Rattle.face.proofs.ReadFace.Laws as R′
+use Rattle.face.proofs.NextFace as N
+use Rattle.face.proofs.NextFace.Laws as N′
 
-pub promised-face : {run : Run} {c : Call} (m : Moved) {r : Move}
+pub promised-face : {run : Run} {c : Call} (m : Moved) {r : MoveFace}
     → Promised run c (callNumber (m .answer)) (m .run) → r ≡ moveFace m → Promised run c (r .refusal) (r .run)
-promised-face {run} {c} m p e = subst (λ (x : Move). Promised run c (x .refusal) (x .run)) (sym e) p
+promised-face {run} {c} m p e = subst (λ (x : MoveFace). Promised run c (x .refusal) (x .run)) (sym e) p
 
-pub answers-face : {o : rule.Outcome} {before after : List ℕ} {a : TableAnswer} {r : Outcome}
+pub answers-face : {o : Outcome} {before after : List ℕ} {a : TableAnswer} {r : OutcomeFace}
     → Answers o before a after → r ≡ outcomeFace a → FaceAnswers o before r after
 answers-face p e = record { answer = e ∙ ap outcomeFace (p .answer); column = p .column }
 

@@ -18,32 +18,32 @@ ghost use Rattle.tracker.specs.Restarted.{Restarted};
 ghost use Rattle.face.specs.Face.{moveFace, readFace, nextFace, outcomeFace, verdictFace};
 
 #[repr(C)]
-pub struct Move {
+pub struct MoveFace {
     pub refusal: u32,
     pub run: Run,
 }
 
 #[repr(C)]
-pub struct Read {
+pub struct ReadFace {
     pub refusal: u32,
     pub value: u32,
 }
 
 #[repr(C)]
-pub struct NextDone {
+pub struct NextFace {
     pub task: u32,
     pub at: u32,
 }
 
 #[repr(C)]
-pub struct Outcome {
+pub struct OutcomeFace {
     pub refusal: u32,
     pub place: u32,
     pub end: u32,
 }
 
 #[repr(C)]
-pub struct Verdict {
+pub struct VerdictFace {
     pub refusal: u32,
     pub place: u32,
     pub records: u32,
@@ -76,77 +76,77 @@ pub fn call_number(answer: CallAnswer) -> u32
     }
 }
 
-pub fn move_of(moved: Moved) -> Move
+pub fn move_of(moved: Moved) -> MoveFace
     ensures { λ r. ⌜ r ≡ moveFace moved ⌝ }
 {
     let answer = moved.answer;
     let refusal = call_number(answer);
     let run = moved.run;
-    Move { refusal, run }
+    MoveFace { refusal, run }
 }
 
 // The fresh run of the setup; a refused setup gives back the run as it was.
-pub fn set_up_anew(run: Run, setup: Setup) -> Move
+pub fn set_up_anew(run: Run, setup: Setup) -> MoveFace
     ensures { λ r. ⌜ Restarted run setup (r .refusal) (r .run) ⌝ }
 {
     let start = restarted(run, setup);
     let answer = start.answer;
     let refusal = setup_number(answer);
     let run = start.run;
-    Move { refusal, run }
+    MoveFace { refusal, run }
 }
 
 // ---- readings
 
-pub fn ticks_read(ticks: TaskTicks) -> Read
+pub fn ticks_read(ticks: TaskTicks) -> ReadFace
     ensures { λ r. ⌜ r ≡ readFace (ticksTold ticks) ⌝ }
 {
     match ticks {
-        TaskTicks::Ticks(value) => Read { refusal: 0, value },
-        TaskTicks::NoSuchTask => Read {
+        TaskTicks::Ticks(value) => ReadFace { refusal: 0, value },
+        TaskTicks::NoSuchTask => ReadFace {
             refusal: 12,
             value: 0,
         },
     }
 }
 
-pub fn completion_read(completion: Completion) -> Read
+pub fn completion_read(completion: Completion) -> ReadFace
     ensures { λ r. ⌜ r ≡ readFace (completionTold completion) ⌝ }
 {
     match completion {
-        Completion::At(value) => Read { refusal: 0, value },
-        Completion::Never => Read {
+        Completion::At(value) => ReadFace { refusal: 0, value },
+        Completion::Never => ReadFace {
             refusal: 0,
             value: 0,
         },
-        Completion::NoSuchTask => Read {
+        Completion::NoSuchTask => ReadFace {
             refusal: 12,
             value: 0,
         },
     }
 }
 
-pub fn next_read(next: Next) -> NextDone
+pub fn next_read(next: Next) -> NextFace
     ensures { λ r. ⌜ r ≡ nextFace (nextTold next) ⌝ }
 {
     match next {
-        Next::Done(task, at) => NextDone { task, at },
-        Next::Nothing => NextDone { task: 0, at: 0 },
+        Next::Done(task, at) => NextFace { task, at },
+        Next::Nothing => NextFace { task: 0, at: 0 },
     }
 }
 
 // ---- tables and logs
 
-pub fn outcome_of(answer: TableAnswer) -> Outcome
+pub fn outcome_of(answer: TableAnswer) -> OutcomeFace
     ensures { λ r. ⌜ r ≡ outcomeFace answer ⌝ }
 {
     match answer {
-        TableAnswer::Finished(end) => Outcome {
+        TableAnswer::Finished(end) => OutcomeFace {
             refusal: 0,
             place: 0,
             end,
         },
-        TableAnswer::Refused(refusal, place) => Outcome {
+        TableAnswer::Refused(refusal, place) => OutcomeFace {
             refusal,
             place,
             end: 0,
@@ -154,17 +154,17 @@ pub fn outcome_of(answer: TableAnswer) -> Outcome
     }
 }
 
-pub fn verdict_on(log: &[u8]) -> Verdict
+pub fn verdict_on(log: &[u8]) -> VerdictFace
     ensures { λ r. ⌜ r ≡ verdictFace (now (log .entry)) (judged (now (log .entry))) ⌝ }
 {
     let verdict = judging::judge(log);
     match verdict {
-        Judged::Accepted => Verdict {
+        Judged::Accepted => VerdictFace {
             refusal: 0,
             place: 0,
             records: log::record_count(log) as u32,
         },
-        Judged::Refused { number, block } => Verdict {
+        Judged::Refused { number, block } => VerdictFace {
             refusal: number,
             place: block as u32,
             records: 0,
