@@ -12,7 +12,7 @@ use Rattle.judging.specs.Blocks.{fullBlock}
 use Rattle.judging.specs.Log.{Verdict, accepted, refused, told, judged, Reads}
 use Rattle.log.specs.Records.{setupOf, askedTimes, rowAt}
 use Rattle.log.specs.declared.Found.the-variants.{Row, End}
-use Rattle.places.specs.declared.Start.{Start}
+use Rattle.places.specs.declared.Begun.{Begun}
 use Rattle.places.specs.declared.Taken.{Taken}
 
 -- ---- places: record r of block b, both counted from 0
@@ -57,6 +57,6 @@ abbrev pub firstBlock : Verdict → ℕ
 firstBlock accepted = 1
 firstBlock (refused n i) = 0
 
-pub record Begins (log : List ℕ) (s : Start) : Type 0 where
+pub record Begins (log : List ℕ) (s : Begun) : Type 0 where
   pub verdict : told (s .verdict) ≡ judged log
   pub block : s .block ≡ firstBlock (judged log)

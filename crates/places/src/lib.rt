@@ -81,21 +81,21 @@ pub fn setup_at(log: &[u8], block: usize, _record: usize) -> Setup
 }
 
 // What a log is judged to be, and the block at which its reading begins.
-pub struct Start {
+pub struct Begun {
     pub verdict: Judged,
     pub block: usize,
 }
 
 // Judges the whole log. Reading begins at block 1, or at block 0, which has no records, where the log is refused.
-pub fn start_of(log: &[u8]) -> Start
+pub fn start_of(log: &[u8]) -> Begun
     ensures { λ r. ⌜ Begins (now (log .entry)) r ⌝ }
 {
     let verdict = judging::judge(log);
     match verdict {
-        Judged::Accepted => Start { verdict, block: 1 },
+        Judged::Accepted => Begun { verdict, block: 1 },
         Judged::Refused {
             number: _,
             block: _,
-        } => Start { verdict, block: 0 },
+        } => Begun { verdict, block: 0 },
     }
 }

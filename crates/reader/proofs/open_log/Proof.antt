@@ -32,9 +32,9 @@ use denote.Triple.Statement.{Triple}
 use denote.Triple.Call.{calls-at}
 use Rattle.places.specs.Places.{Begins}
 use Rattle.reader.specs.declared.Opened.{Opened}
-use Rattle.places.specs.declared.Start.{Start}
-use Rattle.places.proofs.Start as J
-use Rattle.places.proofs.Start.Laws as J′
+use Rattle.places.specs.declared.Begun.{Begun}
+use Rattle.places.proofs.Begun as J
+use Rattle.places.proofs.Begun.Laws as J′
 use Rattle.reader.proofs.Opened as O
 use Rattle.reader.proofs.Opened.Laws as O′
 use Rattle.reader.proofs.Reader as T
@@ -54,18 +54,18 @@ use Rattle.reader.proofs.open_log.Code as code
 abbrev startData : Data
 startData = struct J.the-type J′.the-laws J′.the-plain (λ x. tt) (λ x f. refl)
 
-verdict-is : (j : Start) (vs : List Val) → Is J.the-row j vs
+verdict-is : (j : Begun) (vs : List Val) → Is J.the-row j vs
     → Is (judgedData .type) (j .verdict) (judgedData .val (j .verdict) ∷ [])
 verdict-is j vs is = LL.owed J.the-type J′.the-laws j vs is .0
 
-block-is : (j : Start) (vs : List Val) → Is J.the-row j vs → Is usize (j .block) (vint w64 (j .block) ∷ [])
+block-is : (j : Begun) (vs : List Val) → Is J.the-row j vs → Is usize (j .block) (vint w64 (j .block) ∷ [])
 block-is j vs is = LL.owed J.the-type J′.the-laws j vs is .1 .0
 
 -- what `start_of` says
 abbrev startRow : Lfts 1 → RattleType
 startRow κs = J.the-row
 
-abbrev Starts : Lfts 1 → RefT (List ℕ) → Start → Type 0
+abbrev Starts : Lfts 1 → RefT (List ℕ) → Begun → Type 0
 Starts κs s j = Begins (now s) j
 
 module _ {M : Type 1} (𝓤 : URA M) (H : Heap 𝓤) (A : Atoms 𝓤) (W : Given 𝓤 H A) (κ : Lft) (q : Share)
@@ -76,11 +76,11 @@ module _ {M : Type 1} (𝓤 : URA M) (H : Heap 𝓤) (A : Atoms 𝓤) (W : Given
   abbrev begins : On startRow Starts 𝓤 H A .Ghost
   begins = to startRow Starts 𝓤 H A W κ q s
 
-  abbrev made : Start → Opened
+  abbrev made : Begun → Opened
   made j = record { verdict = j .verdict; reader = record { log = s; block = j .block; «record» = 0 } }
 
   -- what is known of the structs that are made
-  made-is : (j : Start) (vs : List Val) → Is J.the-row j vs
+  made-is : (j : Begun) (vs : List Val) → Is J.the-row j vs
       → Is (O.the-row α) (made j) (LL.vals (O.the-type α) (O′.the-laws α) (made j))
   made-is j vs is =
       LL.owes (O.the-type α) (O′.the-laws α) (made j) (
@@ -93,7 +93,7 @@ module _ {M : Type 1} (𝓤 : URA M) (H : Heap 𝓤) (A : Atoms 𝓤) (W : Given
 
   -- what the opening owns: of the slice's, with the numbers' facts, what the reader owns, and with the verdict's the
   -- whole
-  made-owns : (j : Start) (vs : List Val) → Is J.the-row j vs
+  made-owns : (j : Begun) (vs : List Val) → Is J.the-row j vs
       → ent 𝓤 (sem 𝓤 H A (SliceOwn κ s))
       (sem 𝓤 H A (openedRow (κ, tt) .own (made j) (LL.vals (O.the-type α) (O′.the-laws α) (made j))))
   made-owns j vs is =
