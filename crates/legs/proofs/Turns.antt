@@ -37,6 +37,10 @@ sliceDue-whole s c limit e = leb-true (s .slice) limit (and-true (overdue s (c .
 
 -- ---- what it does
 
+pub turned-used : (s : Setup) (c : Cursor) (limit : ℕ) → sliceDue s c limit ≡ true → turnedTo s c .used ≡ 0
+unfolding turnedTo
+turned-used s c limit e = cond-true 0 (c .used) (and-true (overdue s (c .used)) (leb (s .slice) limit) e .0)
+
 next-below : (h n : ℕ) (b : Bool) → h < n → cond b (cond (eqb (h + 1) n) 0 (h + 1)) h < n
 next-below h n false l = l
 next-below h n true l =

@@ -1,13 +1,13 @@
 -- What the functions ask and promise. Assumes nothing.
-use Prim.Native.Nat.{ℕ, _+_, _-_, _≤_, _<_}
+use Prim.Native.Nat.{ℕ, _+_, _-_, _<_, min}
 use mathlib.Core.Path.{_≡_}
-use mathlib.Core.Bool.{false}
+use mathlib.Core.Bool.{false, cond}
 use mathlib.Core.List.{List}
 use lib.ListN.{length, take, set}
 use Rattle.lists.specs.Lists.{at, times}
 use Rattle.rule.specs.Setups.{isPriority}
 use Rattle.rule.specs.declared.Setup.{Setup}
-use Rattle.laws.specs.Sound.{Sliced, Room}
+use Rattle.laws.specs.Sound.{Sliced}
 use Rattle.legs.specs.Parts.{turnedTo, Kept}
 use Rattle.legs.specs.declared.Cursor.{Cursor}
 use Rattle.legs.specs.declared.Leg.{Leg}
@@ -20,19 +20,17 @@ pub record Ready (s : Setup) (c : Cursor) (q o : List ℕ) : Type 0 where
   pub sliced : isPriority s ≡ false → Sliced s (c .used)
   pub owing : (k : ℕ) → 0 < times k (take (c .queued) q) → 0 < at o k
 
--- How many ticks a task may have in a row: some, no more than asked for, than owed, and than its slice has left.
-pub record AtOnce (s : Setup) (used owed limit n : ℕ) : Type 0 where
-  pub some : 0 < n
-  pub asked : n ≤ limit
-  pub owes : n ≤ owed
-  pub sliced : Room s used n
+-- How many ticks a task may have one after another: what it is owed, at most the limit, and under round robin at most
+-- what its slice has left.
+unfoldable pub atOnce : Setup → ℕ → ℕ → ℕ → ℕ
+atOnce p used owed limit = cond (isPriority p) (min owed limit) (min (min owed limit) (p .slice - used))
 
--- The next row of ticks: the cursor after the turn, the task at its head, what it is owed, and how many it gets.
-pub record Leads (s : Setup) (c : Cursor) (limit : ℕ) (q o : List ℕ) (l : Leg) : Type 0 where
-  pub turned : l .cursor ≡ turnedTo s c
-  pub task : l .task ≡ at q (l .cursor .head)
-  pub owes : l .owed ≡ at o (l .task)
-  pub once : AtOnce s (l .cursor .used) (l .owed) limit (l .n)
+-- The next leg: the cursor after the turn, the task at its head, what it is owed, and how many ticks it gets.
+unfoldable pub legOf : Setup → Cursor → ℕ → List ℕ → List ℕ → Leg
+legOf p c limit q o =
+    let r = turnedTo p c in
+    let task = at q (r .head) in
+    record { cursor = r; task = task; owed = at o task; n = atOnce p (r .used) (at o task) limit }
 
 -- the ticks owed and given after it
 abbrev pub owedAfter : Leg → List ℕ → List ℕ

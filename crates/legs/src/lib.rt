@@ -2,11 +2,11 @@
 // ticks, the cursor after ticks.
 use rule::Setup;
 ghost use mathlib.Core.Path.{_≡_};
-ghost use Prim.Native.Nat.{_+_, _≤_, _<_, _^_};
+ghost use Prim.Native.Nat.{_+_, _≤_, _<_, _^_, min};
 ghost use Rattle.rule.specs.Tick.{usedMore};
 ghost use Rattle.laws.specs.Sound.{Room};
 ghost use Rattle.legs.specs.Parts.{turnedTo, sliceDue, servedTo, restedTo};
-ghost use Rattle.legs.specs.Inner.{Ready, AtOnce, Leads};
+ghost use Rattle.legs.specs.Inner.{Ready, atOnce, legOf};
 
 // The small numbers of a run, which a move of the clock keeps in registers. The head is the place of the task that is
 // served. The idle ticks are as wide as the places so that no byte of the struct is padding: with padding a step under
@@ -50,17 +50,15 @@ fn turned(s: Setup, c: Cursor) -> Cursor
 }
 
 fn least(a: u32, b: u32) -> u32
-    ensures { λ r. ⌜ (r ≤ a) × (r ≤ b) × (0 < a → 0 < b → 0 < r) ⌝ }
+    ensures { λ r. ⌜ r ≡ min a b ⌝ }
 {
     if a < b { a } else { b }
 }
 
 // How many ticks a task may have in a row.
 fn at_once(s: Setup, used: u32, owed: u32, limit: u32) -> u32
-    requires { ⌜ 0 < limit ⌝ }
-    requires { ⌜ 0 < owed ⌝ }
     requires { ⌜ Room s used 1 ⌝ }
-    ensures { λ r. ⌜ AtOnce s used owed limit r ⌝ }
+    ensures { λ r. ⌜ r ≡ atOnce s used owed limit ⌝ }
 {
     let most = least(owed, limit);
     if s.policy == 1 {
@@ -79,8 +77,7 @@ pub struct Leg {
 
 pub fn next_leg(s: Setup, c: Cursor, limit: u32, queue: &[u8; 32], owed: &[u32; 32]) -> Leg
     requires { ⌜ Ready s c (now queue) (now owed) ⌝ }
-    requires { ⌜ 0 < limit ⌝ }
-    ensures { λ r. ⌜ Leads s c limit (now (queue .entry)) (now (owed .entry)) r ⌝ }
+    ensures { λ r. ⌜ r ≡ legOf s c limit (now (queue .entry)) (now (owed .entry)) ⌝ }
 {
     let cursor = turned(s, c);
     let h = cursor.head;

@@ -1,19 +1,22 @@
--- What a step does to the state of the parts. In order: some ticks later; idle ticks; a row of ticks that ends before
--- the task is done, and one with which it is done. Assumes nothing.
+-- What a step does to the state of the parts. In order: how far it goes; idle ticks; a leg that ends before the task is
+-- done, and one with which it is done. Assumes nothing.
 use Prim.Native.Nat.{ℕ, _+_, _-_, _≤_, _<_}
 use native.Mathlib.Omega.{arith}
 use mathlib.Core.Path.{_≡_, refl, sym, ap, _∙_, subst}
 use mathlib.Core.Bool.{cond}
 use mathlib.Core.List.{List, [], _∷_, _++_}
 use lib.ListN.{length, drop, replicate, replicate-append-replicate}
-use lib.Dec.{ltb}
-use borrow.Author.Tests.{eq-eqb}
+use lib.Dec.{eqb, ltb}
+use borrow.Author.Tests.{eq-eqb, ne-eqb, eqb-false}
 use Rattle.lists.specs.Lists.{at, times, without}
+use Rattle.lists.proofs.Testing.{tested, cond-false}
 use Rattle.lists.proofs.Places.{length-zero}
 use Rattle.rule.specs.State.{State}
-use Rattle.rule.specs.Tick.{give, rest, ticks}
+use Rattle.rule.specs.Tick.{chosen, turn, give, rest, ticks}
 use Rattle.rule.specs.declared.Setup.{Setup}
 use Rattle.laws.specs.Sound.{Sound}
+use Rattle.laws.proofs.Chosen.{chosen-member}
+use Rattle.laws.proofs.Served.{times-turn, length-turn, used-turn}
 use Rattle.laws.proofs.Ticks.{ticks-clock}
 use Rattle.laws.proofs.Jump.{ticks-idle}
 use Rattle.line.specs.Places.{queueAt, takenOut}
@@ -21,71 +24,106 @@ use Rattle.line.proofs.Rings.{takenOut-length, drop-takenOut}
 use Rattle.line.proofs.Queues.{queueAt-length, queueAt-takenOut}
 use Rattle.line.proofs.Heads.{heads-inside, heads-serves}
 use Rattle.legs.specs.Parts.{parts, Kept, servedTo, restedTo}
-use Rattle.legs.specs.Inner.{Leads, owedAfter, givenAfter}
+use Rattle.legs.specs.Inner.{atOnce, legOf, owedAfter, givenAfter}
 use Rattle.legs.specs.declared.Cursor.{Cursor}
 use Rattle.legs.specs.declared.Leg.{Leg}
-use Rattle.legs.proofs.Legs as legs
-use Rattle.steps.specs.Inner.{Finished, Stepped}
+use Rattle.legs.proofs.Legs.{atOnce-asked, atOnce-some, front-times, leg-task, leg-owed, leg-once, leg-queued, leg-kept}
+use Rattle.legs.proofs.Legs.{leg-owes, leg-gets, leg-turn, leg-chosen, leg-ticks, parts-some, served-kept, served-ticks}
+use Rattle.steps.specs.Inner.{stride, Finished, Stepped}
 
--- ---- some ticks later
+-- ---- how far a step goes
 
-stepped : (s : Setup) (r : Cursor) (q : List ℕ) (limit n : ℕ) (before after : State) → 0 < n → n ≤ limit → Kept s r q
-    → after ≡ ticks n before → Stepped s r q limit before after
-stepped s r q limit n before after p h K e =
-    let c : after .clock ≡ before .clock + n = ap (λ (x : State). x .clock) e ∙ ticks-clock n before in
-    let d : n ≡ after .clock - before .clock = omega arith in
-    record { kept = K; later = omega arith; soon = omega arith; shown = e ∙ ap (λ (k : ℕ). ticks k before) d }
+stride-idle : (s : State) (limit : ℕ) → s .queue ≡ [] → stride s limit ≡ limit
+unfolding stride
+stride-idle s limit e = rw e
 
--- a limit that is not smaller
-pub stepped-sooner : (s : Setup) (r : Cursor) (q : List ℕ) (limit more : ℕ) (before after : State) → limit ≤ more
-    → Stepped s r q limit before after → Stepped s r q more before after
-stepped-sooner s r q limit more before after h J =
-    record { kept = J .kept; later = J .later; soon = omega (arith, J .soon); shown = J .shown }
+stride-leg : (s : State) (limit : ℕ) → 0 < length (s .queue)
+    → stride s limit ≡ atOnce (s .setup) (turn s .used) (at (s .owed) (chosen (s .setup) (turn s .queue))) limit
+unfolding stride
+stride-leg s limit h = cond-false _ _ (ne-eqb (length (s .queue)) 0 (omega arith))
 
-module _ (s : Setup) (c : Cursor) (q o g d : List ℕ) (K : Kept s c q) (S : Sound (parts s c q o g d)) where
+stride-asked : (s : State) (limit : ℕ) → stride s limit ≤ limit
+unfolding stride
+stride-asked s limit =
+    tested (eqb (length (s .queue)) 0)
+    (λ e. rw e (omega arith))
+    (λ e. rw e (atOnce-asked (s .setup) (turn s .used) (at (s .owed) (chosen (s .setup) (turn s .queue))) limit))
+
+stride-some : (s : State) (limit : ℕ) → Sound s → 0 < limit → 0 < stride s limit
+unfolding stride
+stride-some s limit S h =
+    let k = chosen (s .setup) (turn s .queue) in
+    tested (eqb (length (s .queue)) 0)
+    (λ e. rw e h)
+    (λ e.
+    let some : 0 < length (turn s .queue) = omega (arith, eqb-false (length (s .queue)) 0 e, length-turn s) in
+    rw e
+    (atOnce-some (s .setup) (turn s .used) (at (s .owed) k) limit
+    (omega (arith, chosen-member (s .setup) (turn s .queue) some, times-turn s k, S .queued k))
+    h
+    (λ f. omega (arith, used-turn s f (S .sliced f)))))
+
+module _ {p : Setup} {r : Cursor} {q : List ℕ} {limit : ℕ} {before after : State} (S : Sound before) (pos : 0 < limit)
+    (J : Stepped p r q limit before after) where
+  clock : after .clock ≡ before .clock + stride before limit
+  clock = ap (λ (x : State). x .clock) (J .shown) ∙ ticks-clock (stride before limit) before
+
+  pub stepped-later : before .clock < after .clock
+  stepped-later = omega (arith, clock, stride-some before limit S pos)
+
+  pub stepped-soon : after .clock ≤ before .clock + limit
+  stepped-soon = omega (arith, clock, stride-asked before limit)
+
+module _ {p : Setup} {c : Cursor} {q o g d : List ℕ} (K : Kept p c q) (S : Sound (parts p c q o g d)) where
   -- ---- idle ticks
 
-  pub rested-stepped : (limit : ℕ) (r : Cursor) → c .queued ≡ 0 → 0 < limit → r ≡ restedTo c limit
-      → Stepped s r q limit (parts s c q o g d) (parts s r q o g d)
+  pub rested-stepped : {limit : ℕ} {r : Cursor} → c .queued ≡ 0 → r ≡ restedTo c limit
+      → Stepped p r q limit (parts p c q o g d) (parts p r q o g d)
   unfolding restedTo
-  rested-stepped limit r z h er =
+  rested-stepped {limit} z er =
       rw er
-      (stepped s (restedTo c limit) q limit limit (parts s c q o g d) (parts s (restedTo c limit) q o g d) h
-      (omega arith)
-      (record { tidy = K .tidy; inside = K .inside; serves = K .serves })
-      (resting ∙ sym (ticks-idle limit (parts s c q o g d) empty)))
+      record {
+        kept = record { tidy = K .tidy; inside = K .inside; serves = K .serves };
+        shown =
+            resting
+            ∙ sym (ticks-idle limit (parts p c q o g d) empty)
+            ∙ ap (λ (n : ℕ). ticks n (parts p c q o g d)) (sym (stride-idle (parts p c q o g d) limit empty));
+      }
     where
-      empty : queueAt s (c .head) (c .queued) q ≡ []
-      empty = length-zero (queueAt s (c .head) (c .queued) q)
-          (queueAt-length s (c .head) (c .queued) q (omega (arith, K .tidy .fits, K .tidy .whole)) ∙ z)
+      empty : queueAt p (c .head) (c .queued) q ≡ []
+      empty = length-zero (queueAt p (c .head) (c .queued) q)
+          (queueAt-length p (c .head) (c .queued) q (omega (arith, K .tidy .fits, K .tidy .whole)) ∙ z)
 
-      resting : parts s (restedTo c limit) q o g d ≡ rest (parts s c q o g d) limit
+      resting : parts p (restedTo c limit) q o g d ≡ rest (parts p c q o g d) limit
       resting = unfold rest in refl
 
-  -- ---- a row of ticks to one task
+  -- ---- a leg
 
-  module _ (some : 0 < c .queued) (limit : ℕ) (l : Leg) (L : Leads s c limit q o l) where
-    kept : Kept s (l .cursor) q
-    kept = legs.leg-kept s c q o g d K S some limit l L
+  module _ (some : 0 < c .queued) {limit : ℕ} (pos : 0 < limit) {l : Leg} (L : l ≡ legOf p c limit q o) where
+    kept : Kept p (l .cursor) q
+    kept = leg-kept K S some pos L
 
-    queued : l .cursor .queued ≡ c .queued
-    queued = legs.leg-queued s c q o g d K S some limit l L
+    stride-parts : stride (parts p c q o g d) limit ≡ l .n
+    stride-parts =
+        stride-leg (parts p c q o g d) limit (parts-some K S some pos L)
+        ∙ ap (λ (x : State). atOnce p (x .used) (at o (chosen p (x .queue))) limit) (sym (leg-turn K S some pos L))
+        ∙ ap (λ (k : ℕ). atOnce p (l .cursor .used) (at o k) limit) (sym (leg-chosen K S some pos L))
+        ∙ ap (λ (k : ℕ). atOnce p (l .cursor .used) k limit) (sym (leg-owed K S some pos L))
+        ∙ sym (leg-once K S some pos L)
 
-    owes : l .n ≤ at o (l .task)
-    owes = legs.leg-owes s c q o g d K S some limit l L
+    stepped : {r : Cursor} {q′ : List ℕ} {after : State} → Kept p r q′ → after ≡ ticks (l .n) (parts p c q o g d)
+        → Stepped p r q′ limit (parts p c q o g d) after
+    stepped k e =
+        record { kept = k; shown = e ∙ ap (λ (n : ℕ). ticks n (parts p c q o g d)) (sym stride-parts) }
 
-    pub served-stepped : (r : Cursor) (o′ g′ : List ℕ) → l .n < at o (l .task) → r ≡ servedTo s (l .cursor) (l .n)
-        → o′ ≡ owedAfter l o → g′ ≡ givenAfter l g → Stepped s r q limit (parts s c q o g d) (parts s r q o′ g′ d)
-    served-stepped r o′ g′ h er eo eg =
-        rw (er, eo, eg)
-        (stepped s (servedTo s (l .cursor) (l .n)) q limit (l .n) (parts s c q o g d)
-        (parts s (servedTo s (l .cursor) (l .n)) q (owedAfter l o) (givenAfter l g) d) (L .once .some) (L .once .asked)
-        (legs.served-kept s c q o g d K S some limit l L)
-        (legs.served-ticks s c q o g d K S some limit l L h))
+    pub served-stepped : {r : Cursor} {o′ g′ : List ℕ} → l .n < at o (l .task) → r ≡ servedTo p (l .cursor) (l .n)
+        → o′ ≡ owedAfter l o → g′ ≡ givenAfter l g → Stepped p r q limit (parts p c q o g d) (parts p r q o′ g′ d)
+    served-stepped h er eo eg =
+        rw (er, eo, eg) (stepped (served-kept K S some pos L) (served-ticks K S some pos L h))
 
     -- ---- with the last that it is owed
 
-    module _ (r : Cursor) (q′ d′ : List ℕ) (F : Finished s (l .cursor) (l .task) (l .n) q d r q′ d′) where
+    module _ {r : Cursor} {q′ d′ : List ℕ} (F : Finished p (l .cursor) (l .task) (l .n) q d r q′ d′) where
       abbrev h : ℕ
       h = l .cursor .head
 
@@ -93,34 +131,35 @@ module _ (s : Setup) (c : Cursor) (q o g d : List ℕ) (K : Kept s c q) (S : Sou
       n = l .cursor .queued
 
       head-below : h < n
-      head-below = omega (arith, kept .inside, queued)
+      head-below = omega (arith, kept .inside, leg-queued K S some pos L)
 
       room : n ≤ length q
       room = omega (arith, kept .tidy .fits, K .tidy .whole)
 
-      finished-queue : queueAt s (r .head) (r .queued) q′ ≡ without (l .task) (queueAt s h n q)
+      finished-queue : queueAt p (r .head) (r .queued) q′ ≡ without (l .task) (queueAt p h n q)
       finished-queue =
-          let once : times (at q h) (queueAt s h n q) ≡ 1 =
-          subst (λ (x : ℕ). times x (queueAt s h n q) ≡ 1) (L .task)
-          (ap (λ (x : ℕ). times (l .task) (queueAt s h x q)) queued
-          ∙ legs.front-times s c q o g d K S h (l .task)
-          ∙ omega (arith, owes, L .once .some)) in
-          ap (λ (x : List ℕ). queueAt s (r .head) (r .queued) x) (F .left)
-          ∙ ap (λ (x : ℕ). queueAt s (r .head) x (takenOut h q)) (F .queued)
-          ∙ queueAt-takenOut s h n q (r .head) head-below room once
+          let task = leg-task K S some pos L in
+          let once : times (at q h) (queueAt p h n q) ≡ 1 =
+          subst (λ (x : ℕ). times x (queueAt p h n q) ≡ 1) task
+          (ap (λ (x : ℕ). times (l .task) (queueAt p h x q)) (leg-queued K S some pos L)
+          ∙ front-times K S h (l .task)
+          ∙ omega (arith, leg-owes K S some pos L, leg-gets K S some pos L)) in
+          ap (λ (x : List ℕ). queueAt p (r .head) (r .queued) x) (F .left)
+          ∙ ap (λ (x : ℕ). queueAt p (r .head) x (takenOut h q)) (F .queued)
+          ∙ queueAt-takenOut p h n q (r .head) head-below room once
           (λ e. F .head .robin e ∙ ap (λ (x : ℕ). cond (ltb h x) h 0) (F .queued))
-          ∙ ap (λ (x : ℕ). without x (queueAt s h n q)) (sym (L .task))
+          ∙ ap (λ (x : ℕ). without x (queueAt p h n q)) (sym task)
 
       finished-ticks : at o (l .task) ≡ l .n
-          → parts s r q′ (owedAfter l o) (givenAfter l g) d′ ≡ ticks (l .n) (parts s c q o g d)
-      finished-ticks e = gave ∙ legs.leg-ticks s c q o g d K S some limit l L
+          → parts p r q′ (owedAfter l o) (givenAfter l g) d′ ≡ ticks (l .n) (parts p c q o g d)
+      finished-ticks e = gave ∙ leg-ticks K S some pos L
         where
-          gave : parts s r q′ (owedAfter l o) (givenAfter l g) d′ ≡ give (parts s (l .cursor) q o g d) (l .task) (l .n)
+          gave : parts p r q′ (owedAfter l o) (givenAfter l g) d′ ≡ give (parts p (l .cursor) q o g d) (l .task) (l .n)
           gave =
               unfold give in
               simp (F .clock, F .idle, F .used, finished-queue, F .done, eq-eqb (at o (l .task)) (l .n) e)
 
-      finished-kept : Kept s r q′
+      finished-kept : Kept p r q′
       finished-kept =
           let w : length q′ ≡ 32 =
           ap length (F .left) ∙ takenOut-length h q (omega (arith, head-below, room)) ∙ K .tidy .whole in
@@ -139,13 +178,10 @@ module _ (s : Setup) (c : Cursor) (q o g d : List ℕ) (K : Kept s c q) (S : Sou
                       ∙ replicate-append-replicate (32 - n) 1 0
                       ∙ ap (λ (x : ℕ). replicate x 0) z;
                 };
-            inside = heads-inside s h (r .queued) q′ (r .head) (F .head);
-            serves = λ p. heads-serves s h (r .queued) q′ (r .head) (F .head) p (omega arith);
+            inside = heads-inside p h (r .queued) q′ (r .head) (F .head);
+            serves = λ y. heads-serves p h (r .queued) q′ (r .head) (F .head) y (omega arith);
           }
 
-      pub finished-stepped : (o′ g′ : List ℕ) → at o (l .task) ≡ l .n → o′ ≡ owedAfter l o → g′ ≡ givenAfter l g
-          → Stepped s r q′ limit (parts s c q o g d) (parts s r q′ o′ g′ d′)
-      finished-stepped o′ g′ e eo eg =
-          rw (eo, eg)
-          (stepped s r q′ limit (l .n) (parts s c q o g d) (parts s r q′ (owedAfter l o) (givenAfter l g) d′)
-          (L .once .some) (L .once .asked) finished-kept (finished-ticks e))
+      pub finished-stepped : {o′ g′ : List ℕ} → at o (l .task) ≡ l .n → o′ ≡ owedAfter l o → g′ ≡ givenAfter l g
+          → Stepped p r q′ limit (parts p c q o g d) (parts p r q′ o′ g′ d′)
+      finished-stepped e eo eg = rw (eo, eg) (stepped finished-kept (finished-ticks e))

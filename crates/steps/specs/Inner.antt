@@ -1,14 +1,18 @@
--- What the functions ask and promise. In order: the last ticks of a task; a step. Primed names are arrays afterwards.
--- Assumes nothing.
-use Prim.Native.Nat.{ℕ, _+_, _-_, _≤_, _<_}
+-- What the functions promise. In order: the last ticks of a task; a step. Primed names are arrays afterwards. Assumes
+-- nothing.
+use Prim.Native.Nat.{ℕ, _+_, _-_}
 use mathlib.Core.Path.{_≡_}
+use mathlib.Core.Bool.{cond}
 use mathlib.Core.List.{List}
-use lib.ListN.{set}
+use lib.ListN.{length, set}
+use lib.Dec.{eqb}
+use Rattle.lists.specs.Lists.{at}
 use Rattle.rule.specs.State.{State}
-use Rattle.rule.specs.Tick.{ticks}
+use Rattle.rule.specs.Tick.{chosen, turn, ticks}
 use Rattle.rule.specs.declared.Setup.{Setup}
 use Rattle.line.specs.Places.{takenOut, Heads}
 use Rattle.legs.specs.Parts.{Kept}
+use Rattle.legs.specs.Inner.{atOnce}
 use Rattle.legs.specs.declared.Cursor.{Cursor}
 
 -- After the last n ticks that the task at the head was owed: it has left the queue, and is done.
@@ -21,9 +25,15 @@ pub record Finished (s : Setup) (c : Cursor) (task n : ℕ) (q d : List ℕ) (r 
   pub left : q′ ≡ takenOut (c .head) q
   pub done : d′ ≡ set d task (c .clock + n)
 
--- At least one tick later and at most limit, by the rule.
+-- How far a step goes that may go as far as limit: with nothing open so far, and else as far as the task that is served
+-- after the turn may have ticks at once. "No call walks through the ticks one by one. Under round robin a step per slice
+-- is enough in the base."
+unfoldable pub stride : State → ℕ → ℕ
+stride s limit =
+    cond (eqb (length (s .queue)) 0) limit
+    (atOnce (s .setup) (turn s .used) (at (s .owed) (chosen (s .setup) (turn s .queue))) limit)
+
+-- The parts stand for the state after as many ticks.
 pub record Stepped (s : Setup) (r : Cursor) (q : List ℕ) (limit : ℕ) (before after : State) : Type 0 where
   pub kept : Kept s r q
-  pub later : before .clock < after .clock
-  pub soon : after .clock ≤ before .clock + limit
-  pub shown : after ≡ ticks (after .clock - before .clock) before
+  pub shown : after ≡ ticks (stride before limit) before

@@ -87,7 +87,7 @@ fn give_leg(
     legs::served(s, ready, leg.n)
 }
 
-// Some ticks later, at least one and at most limit: idle ones, or a row of ticks to one task.
+// Ticks as far as the limit where nothing is open, and else the next leg.
 pub fn step(
     s: Setup,
     c: Cursor,

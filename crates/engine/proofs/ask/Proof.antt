@@ -61,7 +61,7 @@ joined-requires c κs =
       r .kept,
       (
         asks-room _ _ _ _ _ (sound w) (early (past w)) _ _ _ _ _ r (omega (arith, c .before .before .if2 .left)),
-        (kept-tasks _ _ _ _ _ _ (r .kept) (r .sound), known (past w)),
+        (kept-tasks (r .kept) (r .sound), known (past w)),
       ),
     )
 

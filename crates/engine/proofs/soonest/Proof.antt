@@ -5,10 +5,12 @@ use mathlib.Core.Path.{_≡_, ap}
 use mathlib.Core.List.{List}
 use lib.ListN.{set}
 use Rattle.lists.specs.Lists.{at, total}
-use Rattle.laws.specs.Sound.{Sound}
+use Rattle.laws.specs.Sound.{Sound, Room}
+use Rattle.laws.specs.Drains.{lastClock}
 use Rattle.legs.specs.Parts.{parts}
-use Rattle.legs.proofs.Legs.{ready, leg-known}
-use Rattle.engine.proofs.Waits.{Waits, waits-start, waits-time, waits-end, waits-step, waits-less}
+use Rattle.legs.specs.Inner.{legOf}
+use Rattle.legs.proofs.Legs.{ready, leg-known, leg-owed, leg-sliced}
+use Rattle.engine.proofs.Waits.{Waits, waits-start, waits-owes, waits-time, waits-end, waits-step, waits-less}
 use Rattle.engine.proofs.soonest.Statement.{statement}
 use Rattle.engine.proofs.soonest.Tie as tie
 
@@ -28,39 +30,45 @@ waits : (c : tie.At-loop Inv-loop μ-loop)
     (c .loop .c) (s .args .queue .now) (c .loop .left) (O .done)
 waits c = let O = c .before .before .pre .1 .0 in c .loop .inv (O .given) (O .done) (O .sound)
 
--- what is known once the next row of ticks is
+-- what is known once the next leg is
 module _ (c : tie.After-next-leg Inv-loop μ-loop) where
   abbrev at-loop : tie.At-loop Inv-loop μ-loop
   at-loop = c .before .before
 
-  known : c .next-leg .result .task < 32
-  known =
-      let W = waits at-loop in
-      leg-known _ _ _ _ _ _ (W .kept) (W .sound) (W .some) _ _ (c .next-leg .ensures)
+  abbrev leads : let a = at-loop .before .before .args in
+      c .next-leg .result ≡ legOf (a .s) (at-loop .loop .c) lastClock (a .queue .now) (at-loop .loop .left)
+  leads = c .next-leg .ensures
 
-  time : c .next-leg .result .cursor .clock + c .next-leg .result .n ≤ 4_032_000_000
-  time = waits-time _ _ _ _ _ _ (waits at-loop) _ _ (c .next-leg .ensures)
+  known : c .next-leg .result .task < 32
+  known = let W = waits at-loop in leg-known (W .kept) (W .sound) (W .some) (omega arith) leads
+
+  time : c .next-leg .result .cursor .clock + c .next-leg .result .n ≤ lastClock
+  time = waits-time (waits at-loop) (omega arith) leads
+
+  sliced : Room (at-loop .before .before .args .s) (c .next-leg .result .cursor .used) (c .next-leg .result .n)
+  sliced = let W = waits at-loop in leg-sliced (W .kept) (W .sound) (W .some) (omega arith) leads
+
+  owed : c .next-leg .result .owed ≡ at (at-loop .loop .left) (c .next-leg .result .task)
+  owed = let W = waits at-loop in leg-owed (W .kept) (W .sound) (W .some) (omega arith) leads
+
+  owes : c .next-leg .result .n ≤ c .next-leg .result .owed
+  owes = rw owed (waits-owes (waits at-loop) (omega arith) leads)
 
   more : (c .next-leg .result .owed ≡ c .next-leg .result .n → ⊥)
       → c .next-leg .result .n < at (at-loop .loop .left) (c .next-leg .result .task)
-  more h = let L = c .next-leg .ensures in omega (arith, L .owes, L .once .owes)
+  more h = omega (arith, owed, owes)
 
   stored : let l = c .next-leg .result in
       set (at-loop .loop .left) (l .task) (l .owed - l .n)
       ≡ set (at-loop .loop .left) (l .task) (at (at-loop .loop .left) (l .task) - l .n)
   stored =
-      let l = c .next-leg .result in
-      ap (λ (x : ℕ). set (at-loop .loop .left) (l .task) (x - l .n)) (c .next-leg .ensures .owes)
+      let l = c .next-leg .result in ap (λ (x : ℕ). set (at-loop .loop .left) (l .task) (x - l .n)) owed
 
 loop-holds : tie.Need-loop-holds Inv-loop μ-loop
-loop-holds c = λ g d S.
-    let s = c .before in
-    waits-start _ _ _ (s .args .owed .now) g d (s .pre .0) (s .pre .1 .1 .0) (s .pre .1 .1 .1) S
+loop-holds c = λ g d S. let P = c .before .pre in waits-start (P .0) (P .1 .1 .0) (P .1 .1 .1) S
 
 next-leg-requires : tie.Need-next-leg-requires Inv-loop μ-loop
-next-leg-requires c κs =
-    let W = waits (c .before) in
-    (ready _ _ _ _ _ _ (W .kept) (W .sound) (W .some), omega arith)
+next-leg-requires c κs = let W = waits (c .before) in ready (W .kept) (W .sound) (W .some)
 
 cast-t13 : tie.Need-cast-t13 Inv-loop μ-loop
 cast-t13 c = omega (arith, known (c .before .before .before .before))
@@ -71,14 +79,13 @@ add-t14 c = omega (arith, time (c .before .before .before .before .before .befor
 returns : tie.Need-returns Inv-loop μ-loop
 returns c = λ g d S.
     let l = c .before .before .before .before .before .before in
-    waits-end _ _ _ _ _ _ (l .before .before .loop .inv g d S) _ _ (l .next-leg .ensures)
-    (c .before .before .before .if1 .taken)
+    waits-end (l .before .before .loop .inv g d S) (omega arith) (leads l) (c .before .before .before .if1 .taken)
 
 cast-i : tie.Need-cast-i Inv-loop μ-loop
 cast-i c = omega (arith, known (c .before .before .before .before))
 
 sub-left : tie.Need-sub-left Inv-loop μ-loop
-sub-left c = omega (arith, c .before .before .before .before .before .next-leg .ensures .once .owes)
+sub-left c = omega (arith, owes (c .before .before .before .before .before))
 
 mul-left : tie.Need-mul-left Inv-loop μ-loop
 mul-left c = omega (arith, known (c .before .before .before .before .before))
@@ -89,22 +96,19 @@ array-write-left c = omega (arith, known (c .before .before .before .before .bef
 served-requires : tie.Need-served-requires Inv-loop μ-loop
 served-requires c κs =
     let l = c .before .before .before .before .before in
-    (omega (arith, time l), l .next-leg .ensures .once .sliced)
+    (omega (arith, time l), sliced l)
 
 loop-less : tie.Need-loop-less Inv-loop μ-loop
 loop-less c =
     let l = c .before .before .before .before .before .before in
     let m = more l (c .before .before .before .if1 .left) in
-    let W = waits (l .before .before) in
-    let L = l .next-leg .ensures in
-    omega (arith, L .once .some, waits-less _ _ _ _ _ _ W _ _ L _ _ m (c .served .ensures) (stored l))
+    waits-less (waits (l .before .before)) (omega arith) (leads l) m (c .served .ensures) (stored l)
 
 loop-again : tie.Need-loop-again Inv-loop μ-loop
 loop-again c = λ g d S.
     let l = c .before .before .before .before .before .before in
     let m = more l (c .before .before .before .if1 .left) in
-    let W = l .before .before .loop .inv g d S in
-    waits-step _ _ _ _ _ _ W _ _ (l .next-leg .ensures) _ _ m (c .served .ensures) (stored l)
+    waits-step (l .before .before .loop .inv g d S) (omega arith) (leads l) m (c .served .ensures) (stored l)
 
 pub soonest-spec : {M : Type 1} → statement M
 soonest-spec =

@@ -1,11 +1,11 @@
 -- After the turn the head stands in the queue, so its task is owed ticks.
 use Prim.Native.Nat.{_<_}
 use native.Mathlib.Omega.{arith}
-use mathlib.Core.Path.{refl}
 use borrow.Author.Needs.{needs}
 use Rattle.lists.specs.Lists.{at}
 use Rattle.lists.proofs.Totals.{at-inside}
 use Rattle.legs.proofs.Turns.{turned-some, turned-room}
+use Rattle.legs.specs.Inner.{legOf}
 use Rattle.legs.proofs.Legs.{ready-owes}
 use Rattle.legs.proofs.next_leg.Statement.{statement}
 use Rattle.legs.proofs.next_leg.Tie as tie
@@ -15,19 +15,17 @@ some : (c : tie.After-turned) → c .turned .result .head < c .before .args .c .
 some c =
     let s = c .before in
     rw (c .turned .ensures)
-    (turned-some (s .args .s) (s .args .c) (s .args .queue .now) (s .pre .0 .kept) (s .pre .0 .some))
+    (turned-some (s .args .s) (s .args .c) (s .args .queue .now) (s .pre .kept) (s .pre .some))
 
 owes : (c : tie.After-turned)
     → 0 < at (c .before .args .owed .now) (at (c .before .args .queue .now) (c .turned .result .head))
-owes c =
-    let s = c .before in
-    ready-owes (s .args .s) (s .args .c) (s .args .queue .now) (s .args .owed .now) (s .pre .0) _ (some c)
+owes c = ready-owes (c .before .pre) _ (some c)
 
 known : (c : tie.After-turned) → at (c .before .args .queue .now) (c .turned .result .head) < 32
-known c = omega (arith, at-inside (c .before .args .owed .now) _ (owes c), c .before .pre .0 .owed32)
+known c = omega (arith, at-inside (c .before .args .owed .now) _ (owes c), c .before .pre .owed32)
 
 element-copy-out-task : tie.Need-element-copy-out-task
-element-copy-out-task c = omega (arith, some c, c .before .pre .0 .kept .tidy .fits)
+element-copy-out-task c = omega (arith, some c, c .before .pre .kept .tidy .fits)
 
 cast-i : tie.Need-cast-i
 cast-i c = omega (arith, known (c .before))
@@ -40,22 +38,12 @@ element-copy-out-o c = known (c .before)
 
 at-once-requires : tie.Need-at-once-requires
 at-once-requires c κs =
-    let s = c .before .before .before in (
-      s .pre .1,
-      (
-        owes (c .before .before),
-        rw (c .before .before .turned .ensures) (turned-room (s .args .s) (s .args .c) (s .pre .0 .sliced)),
-      ),
-    )
+    let s = c .before .before .before in
+    rw (c .before .before .turned .ensures) (turned-room (s .args .s) (s .args .c) (s .pre .sliced))
 
 returns : tie.Need-returns
-returns c =
-    record {
-      turned = c .before .before .before .turned .ensures;
-      task = refl;
-      owes = refl;
-      once = c .at-once .ensures;
-    }
+unfolding legOf
+returns c = simp (c .before .before .before .turned .ensures, c .at-once .ensures)
 
 pub next-leg-spec : {M : Type 1} → statement M
 next-leg-spec =
