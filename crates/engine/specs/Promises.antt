@@ -28,7 +28,7 @@ pub record Reached (s : Setup) (r : Cursor) (q : List ℕ) (aim after : State) :
 -- ---- a request
 
 -- What a request leaves of the parts' state. Accepted, it has opened the task. Refused by 10 to 13, it has changed
--- nothing. Refused by 14, it has moved the clock: who asked by value keeps the run, and a table stops.
+-- nothing. Refused by 14, it has moved the clock: a table stops there.
 unfoldable pub afterAsk : State → ℕ → ℕ → ℕ → State
 afterAsk s t k a =
     cond (eqb (requestRefusal s t k a) 0) (opened (moved s t) k a)
