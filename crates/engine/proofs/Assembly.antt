@@ -13,13 +13,13 @@ use Rattle.rule.specs.declared.Setup.{Setup}
 use Rattle.rule.specs.declared.Run.{Run}
 use Rattle.laws.specs.Sound.{Sound}
 use Rattle.line.specs.Places.{queueAt, Tasks, Heads}
-use Rattle.legs.specs.Parts.{parts, Kept}
+use Rattle.legs.specs.Parts.{withQueue, parts, Kept}
 use Rattle.legs.specs.declared.Cursor.{Cursor}
 use Rattle.engine.specs.Inner.{straightTo}
 use Rattle.engine.specs.Promises.{Apart}
 use Rattle.line.proofs.Queues.{queueAt-priority, queueAt-zero, straight-take}
 use Rattle.line.proofs.Heads.{heads-inside, heads-serves}
-use Rattle.engine.proofs.Joining.{with-queue, straight-tidy}
+use Rattle.engine.proofs.Joining.{straight-tidy}
 use Rattle.legs.proofs.Legs.{places-tasks}
 
 module _ (r : Run) (T : Tidy r) where
@@ -42,7 +42,7 @@ module _ (r : Run) (T : Tidy r) where
                   heads-serves (r .setup) 0 (r .queued) (r .queue) head H p (omega (arith, T .fits, T .whole));
             };
         queued = refl;
-        shown = ap (λ (x : List ℕ). with-queue (r .setup) cursor x (r .owed) (r .given) (r .done)) queue;
+        shown = ap (λ (x : List ℕ). withQueue (r .setup) cursor x (r .owed) (r .given) (r .done)) queue;
       }
     where
       cursor : Cursor
@@ -85,6 +85,6 @@ together s c q q′ o g d r K er e =
       tidy =
           straight-tidy s c q K q′ e;
       shown =
-          ap (λ (x : List ℕ). with-queue s c x o g d)
+          ap (λ (x : List ℕ). withQueue s c x o g d)
           (straight-take s (c .head) (c .queued) q q′ (omega (arith, K .tidy .fits, K .tidy .whole)) e);
     }

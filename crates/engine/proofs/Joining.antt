@@ -1,5 +1,4 @@
--- A task that joins the queue. In order: the parts with another queue; the queue from place 0 on; a task that joins
--- it. Assumes nothing.
+-- A task that joins the queue. In order: the queue from place 0 on; a task that joins it. Assumes nothing.
 use Prim.Native.Nat.{ℕ, _+_, _-_, _≤_, _<_, zero-le}
 use native.Mathlib.Omega.{arith}
 use mathlib.Core.Path.{_≡_, sym, ap, _∙_, subst}
@@ -11,34 +10,18 @@ use Rattle.lists.specs.Lists.{at}
 use Rattle.lists.proofs.Testing.{tested, cond-same}
 use Rattle.lists.proofs.Places.{below-append, below-drop, below-set}
 use Rattle.rule.specs.Setups.{isPriority}
-use Rattle.rule.specs.State.{State}
 use Rattle.rule.specs.Tick.{chosen}
 use Rattle.rule.specs.Calls.{opened}
 use Rattle.rule.specs.View.{Clear}
 use Rattle.rule.specs.declared.Setup.{Setup}
 use Rattle.line.specs.Places.{queueAt, Tasks, Heads}
-use Rattle.legs.specs.Parts.{Kept}
+use Rattle.legs.specs.Parts.{withQueue, Kept}
 use Rattle.legs.specs.declared.Cursor.{Cursor}
 use Rattle.engine.specs.Inner.{straightTo, Opens}
 use Rattle.line.proofs.Rings.{clear-set}
 use Rattle.line.proofs.Heads.{chosen-robin, heads-inside, heads-serves, serves-heads, heads-set}
 use Rattle.line.proofs.Queues.{straight-drop, straight-length, straight-priority}
 use Rattle.line.proofs.Queues.{queueAt-below, queueAt-joined}
-
--- ---- the parts with another queue
-
-abbrev pub with-queue : Setup → Cursor → List ℕ → List ℕ → List ℕ → List ℕ → State
-with-queue s c x o g d =
-    record {
-      setup = s;
-      clock = c .clock;
-      idle = c .idle;
-      used = c .used;
-      queue = x;
-      owed = o;
-      given = g;
-      done = d;
-    }
 
 -- ---- the queue from place 0 on
 
@@ -126,7 +109,7 @@ module _ (s : Setup) (c : Cursor) (q : List ℕ) (K : Kept s c q) (q′ : List �
                 };
             shown = λ g d.
                 unfold opened in
-                ap (λ (x : List ℕ). with-queue s c x (set o task amount) g d)
+                ap (λ (x : List ℕ). withQueue s c x (set o task amount) g d)
                 (queueAt-joined s (c .head) (c .queued) q q′ room e task head (omega (arith, K .tidy .whole))
                 (λ f. H .robin f ∙ rw f (cond-same (ltb 0 (c .queued + 1)) 0)));
           }

@@ -12,6 +12,7 @@ ghost use Rattle.lists.specs.Lists.{total};
 ghost use Rattle.rule.specs.Calls.{moved, drained};
 ghost use Rattle.rule.specs.View.{view, Tidy, Shows};
 ghost use Rattle.laws.specs.Sound.{Sound};
+ghost use Rattle.laws.specs.Drains.{lastClock};
 ghost use Rattle.legs.specs.Parts.{parts, Kept};
 ghost use Rattle.engine.specs.Promises.{Reached, Asks, Owing, SoonestIs, Apart};
 
@@ -28,7 +29,7 @@ pub fn walk(
     requires { ⌜ Kept s from (now queue) ⌝ }
     requires { ⌜ Sound (parts s from (now queue) (now owed) (now given) (now done)) ⌝ }
     requires { ⌜ from .clock ≤ time ⌝ }
-    requires { ⌜ time ≤ 4_032_000_000 ⌝ }
+    requires { ⌜ time ≤ lastClock ⌝ }
     ensures { λ r. ⌜ Reached s r (now (queue .exit))
         (moved (parts s from (now (queue .entry)) (now (owed .entry)) (now (given .entry)) (now (done .entry))) time)
         (parts s r (now (queue .exit)) (now (owed .exit)) (now (given .exit)) (now (done .exit))) ⌝ }
@@ -67,7 +68,7 @@ pub fn drain_on(
 ) -> Cursor
     requires { ⌜ Kept s c (now queue) ⌝ }
     requires { ⌜ Sound (parts s c (now queue) (now owed) (now given) (now done)) ⌝ }
-    requires { ⌜ c .clock + total (now owed) ≤ 4_032_000_000 ⌝ }
+    requires { ⌜ c .clock + total (now owed) ≤ lastClock ⌝ }
     ensures { λ r. ⌜ Reached s r (now (queue .exit))
         (drained (parts s c (now (queue .entry)) (now (owed .entry)) (now (given .entry)) (now (done .entry))))
         (parts s r (now (queue .exit)) (now (owed .exit)) (now (given .exit)) (now (done .exit))) ⌝ }
@@ -129,7 +130,7 @@ pub fn soonest(s: Setup, from: Cursor, queue: &[u8; 32], owed: &[u32; 32]) -> Co
     requires { ⌜ Kept s from (now queue) ⌝ }
     requires { ⌜ Owing s from (now queue) (now owed) ⌝ }
     requires { ⌜ 0 < from .queued ⌝ }
-    requires { ⌜ from .clock + total (now owed) ≤ 4_032_000_000 ⌝ }
+    requires { ⌜ from .clock + total (now owed) ≤ lastClock ⌝ }
     ensures { λ r. ⌜ SoonestIs s from (now (queue .entry)) (now (owed .entry)) r ⌝ }
 {
     let mut left = *owed;

@@ -19,6 +19,7 @@ use Rattle.rule.specs.Tick.{chosen, turn, give, ticks}
 use Rattle.rule.specs.declared.Setup.{Setup}
 use Rattle.laws.specs.Sound.{Sound, Room}
 use Rattle.laws.specs.Drains.{lastClock}
+use Rattle.laws.proofs.Served.{overdue-room}
 use Rattle.laws.proofs.Jump.{ticks-jump}
 use Rattle.line.specs.Places.{queueAt, Tasks}
 use Rattle.line.proofs.Queues.{queueAt-times, queueAt-length}
@@ -26,7 +27,7 @@ use Rattle.legs.specs.Parts.{parts, Kept, sliceDue, turnedTo, servedTo}
 use Rattle.legs.specs.Inner.{Ready, atOnce, legOf, owedAfter, givenAfter}
 use Rattle.legs.specs.declared.Cursor.{Cursor}
 use Rattle.legs.specs.declared.Leg.{Leg}
-use Rattle.legs.proofs.Turns.{sliceDue-robin, sliceDue-whole, turned-used, turned-some, turned-room, turned-kept}
+use Rattle.legs.proofs.Turns.{sliceDue-robin, sliceDue-whole, turned-used, turned-some, turned-kept}
 use Rattle.legs.proofs.Turns.{parts-turn}
 
 -- ---- how many at once
@@ -146,7 +147,7 @@ module _ {p : Setup} {c : Cursor} {q o g d : List ℕ} (K : Kept p c q) (S : Sou
     leg-known = omega (arith, at-inside o (l .task) open-task, S .owed32)
 
     room : Room p (l .cursor .used) 1
-    room = rw turned (turned-room p c (S .sliced))
+    room = unfold turnedTo in rw turned (overdue-room p (c .used) (S .sliced))
 
     pub leg-asked : l .n ≤ limit
     leg-asked = rw leg-once (atOnce-asked p (l .cursor .used) (l .owed) limit)

@@ -12,8 +12,7 @@ use Rattle.rule.specs.Setups.{isPriority}
 use Rattle.rule.specs.Tick.{overdue, headBack, turn}
 use Rattle.rule.specs.declared.Setup.{Setup}
 use Rattle.line.specs.Places.{queueAt}
-use Rattle.laws.specs.Sound.{Sliced, Room}
-use Rattle.legs.specs.Parts.{parts, Kept, sliceDue, nextPlace, turnedTo}
+use Rattle.legs.specs.Parts.{withQueue, parts, Kept, sliceDue, nextPlace, turnedTo}
 use Rattle.legs.specs.declared.Cursor.{Cursor}
 use Rattle.line.proofs.Rings.{ring-next}
 use Rattle.line.proofs.Queues.{queueAt-robin}
@@ -45,14 +44,6 @@ next-below : (h n : ℕ) (b : Bool) → h < n → cond b (cond (eqb (h + 1) n) 0
 next-below h n false l = l
 next-below h n true l =
     tested (eqb (h + 1) n) (λ e. rw e (omega arith)) (λ e. rw e (omega (arith, eqb-false (h + 1) n e)))
-
-pub turned-room : (s : Setup) (c : Cursor) → (isPriority s ≡ false → Sliced s (c .used))
-    → Room s (turnedTo s c .used) 1
-unfolding overdue turnedTo
-turned-room s c h e =
-    tested (eqb (c .used) (s .slice))
-    (λ f. rw (e, f) (omega (arith, h e .some)))
-    (λ f. rw (e, f) (omega (arith, h e .inside, eqb-false (c .used) (s .slice) f)))
 
 module _ (s : Setup) (c : Cursor) (q : List ℕ) (K : Kept s c q) (some : 0 < c .queued) where
   pub turned-some : turnedTo s c .head < c .queued
@@ -94,16 +85,4 @@ module _ (s : Setup) (c : Cursor) (q : List ℕ) (K : Kept s c q) (some : 0 < c 
   pub parts-turn : (o g d : List ℕ) → parts s (turnedTo s c) q o g d ≡ turn (parts s c q o g d)
   unfolding turn overdue turnedTo
   parts-turn o g d =
-      ap
-      (λ (x : List ℕ).
-      record {
-        setup = s;
-        clock = c .clock;
-        idle = c .idle;
-        used = cond (overdue s (c .used)) 0 (c .used);
-        queue = x;
-        owed = o;
-        given = g;
-        done = d;
-      })
-      queue-turn
+      ap (λ (x : List ℕ). withQueue s (turnedTo s c) x o g d) queue-turn

@@ -15,18 +15,23 @@ use Rattle.legs.specs.declared.Cursor.{Cursor}
 
 -- ---- the state of the parts
 
-abbrev pub parts : Setup → Cursor → List ℕ → List ℕ → List ℕ → List ℕ → State
-parts s c q o g d =
+-- with this queue
+abbrev pub withQueue : Setup → Cursor → List ℕ → List ℕ → List ℕ → List ℕ → State
+withQueue s c queue o g d =
     record {
       setup = s;
       clock = c .clock;
       idle = c .idle;
       used = c .used;
-      queue = queueAt s (c .head) (c .queued) q;
+      queue = queue;
       owed = o;
       given = g;
       done = d;
     }
+
+-- with the queue that stands in the array q
+abbrev pub parts : Setup → Cursor → List ℕ → List ℕ → List ℕ → List ℕ → State
+parts s c q o g d = withQueue s c (queueAt s (c .head) (c .queued) q) o g d
 
 -- What the parts keep besides: the array holds 0 behind the queue, and the task that is served stands at the head.
 pub record Kept (s : Setup) (c : Cursor) (q : List ℕ) : Type 0 where

@@ -9,9 +9,9 @@ use mathlib.Core.List.{List, [], _∷_, _++_}
 use lib.ListN.{length, set, take, drop, length-append, length-drop, take-append-drop}
 use lib.Seq.{length-take-le, getD-take, take-at, drop-at, take-take, take-suc-set}
 use lib.Dec.{ltb}
-use Rattle.lists.specs.Lists.{at, times, without}
+use Rattle.lists.specs.Lists.{at, Below, times, without}
 use Rattle.lists.proofs.Testing.{tested, cond-true, cond-false}
-use Rattle.lists.proofs.Places.{Below, below-append, below-take, below-drop, without-place}
+use Rattle.lists.proofs.Places.{below-append, below-take, below-drop, without-place}
 use Rattle.rule.specs.Setups.{isPriority}
 use Rattle.rule.specs.declared.Setup.{Setup}
 use Rattle.line.specs.Places.{ring, queueAt, takenOut}

@@ -14,10 +14,10 @@ use lib.Seq.{set-at}
 use lib.Seq.{slice-cons, length-slice, paste, paste-zero, length-paste, take-paste, drop-paste}
 use lib.Dec.{eqb, ltb}
 use borrow.Author.Tests.{eqb-true, ltb-false}
-use Rattle.lists.specs.Lists.{at, times}
+use Rattle.lists.specs.Lists.{at, Below, times}
 use Rattle.lists.proofs.Testing.{tested, cond-true, cond-false}
 use Rattle.lists.proofs.Counting.{times-append}
-use Rattle.lists.proofs.Places.{drop-take, paste-next, length-zero, Below, below-append, below-take, below-drop}
+use Rattle.lists.proofs.Places.{drop-take, paste-next, length-zero, below-append, below-take, below-drop}
 use Rattle.rule.specs.Tick.{headBack}
 use Rattle.line.specs.Places.{ring, takenOut}
 

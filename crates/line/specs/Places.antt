@@ -1,11 +1,11 @@
 -- The queue in its array. In order: its tasks; a task taken out; where the task stands that is served. Assumes nothing.
-use Prim.Native.Nat.{ℕ, _+_, _-_, _≤_, _<_}
+use Prim.Native.Nat.{ℕ, _+_, _-_, _≤_}
 use mathlib.Core.Path.{_≡_}
 use mathlib.Core.Bool.{true, false, cond}
 use mathlib.Core.List.{List, [], _∷_, _++_}
 use lib.ListN.{take, drop}
 use lib.Dec.{ltb}
-use Rattle.lists.specs.Lists.{at}
+use Rattle.lists.specs.Lists.{at, Below}
 use Rattle.rule.specs.Setups.{isPriority}
 use Rattle.rule.specs.Tick.{best}
 use Rattle.rule.specs.declared.Setup.{Setup}
@@ -21,7 +21,7 @@ queueAt s head n q = cond (isPriority s) (take n q) (ring head n q)
 
 -- every entry is the number of a task
 abbrev pub Tasks : List ℕ → Type 0
-Tasks q = (k : ℕ) → at q k < 32
+Tasks q = Below 32 q
 
 -- the task at a place leaves, and those behind it move up
 abbrev pub takenOut : ℕ → List ℕ → List ℕ

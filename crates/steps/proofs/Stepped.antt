@@ -16,7 +16,7 @@ use Rattle.rule.specs.Tick.{chosen, turn, give, rest, ticks}
 use Rattle.rule.specs.declared.Setup.{Setup}
 use Rattle.laws.specs.Sound.{Sound}
 use Rattle.laws.proofs.Chosen.{chosen-member}
-use Rattle.laws.proofs.Served.{times-turn, length-turn, used-turn}
+use Rattle.laws.proofs.Served.{times-turn, length-turn, overdue-room}
 use Rattle.laws.proofs.Ticks.{ticks-clock}
 use Rattle.laws.proofs.Jump.{ticks-idle}
 use Rattle.line.specs.Places.{queueAt, takenOut}
@@ -61,7 +61,7 @@ stride-some s limit S h =
     (atOnce-some (s .setup) (turn s .used) (at (s .owed) k) limit
     (omega (arith, chosen-member (s .setup) (turn s .queue) some, times-turn s k, S .queued k))
     h
-    (λ f. omega (arith, used-turn s f (S .sliced f)))))
+    (unfold turn in overdue-room (s .setup) (s .used) (S .sliced))))
 
 module _ {p : Setup} {r : Cursor} {q : List ℕ} {limit : ℕ} {before after : State} (S : Sound before) (pos : 0 < limit)
     (J : Stepped p r q limit before after) where

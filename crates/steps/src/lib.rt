@@ -7,6 +7,7 @@ ghost use mathlib.Core.Path.{_≡_};
 ghost use Prim.Native.Nat.{_+_, _≤_, _<_, _^_};
 ghost use Rattle.lists.specs.Lists.{at};
 ghost use Rattle.laws.specs.Sound.{Sound};
+ghost use Rattle.laws.specs.Drains.{lastClock};
 ghost use Rattle.line.specs.Places.{Tasks};
 ghost use Rattle.legs.specs.Parts.{parts, Kept};
 ghost use Rattle.legs.specs.Inner.{owedAfter, givenAfter};
@@ -72,7 +73,7 @@ fn give_leg(
     requires { ⌜ Kept s c (now queue) ⌝ }
     requires { ⌜ Sound (parts s c (now queue) (now owed) (now given) (now done)) ⌝ }
     requires { ⌜ 0 < limit ⌝ }
-    requires { ⌜ c .clock + limit ≤ 4_032_000_000 ⌝ }
+    requires { ⌜ c .clock + limit ≤ lastClock ⌝ }
     requires { ⌜ 0 < c .queued ⌝ }
     ensures { λ r. ⌜ Stepped s r (now (queue .exit)) limit
         (parts s c (now (queue .entry)) (now (owed .entry)) (now (given .entry)) (now (done .entry)))
@@ -100,7 +101,7 @@ pub fn step(
     requires { ⌜ Kept s c (now queue) ⌝ }
     requires { ⌜ Sound (parts s c (now queue) (now owed) (now given) (now done)) ⌝ }
     requires { ⌜ 0 < limit ⌝ }
-    requires { ⌜ c .clock + limit ≤ 4_032_000_000 ⌝ }
+    requires { ⌜ c .clock + limit ≤ lastClock ⌝ }
     ensures { λ r. ⌜ Stepped s r (now (queue .exit)) limit
         (parts s c (now (queue .entry)) (now (owed .entry)) (now (given .entry)) (now (done .entry)))
         (parts s r (now (queue .exit)) (now (owed .exit)) (now (given .exit)) (now (done .exit))) ⌝ }

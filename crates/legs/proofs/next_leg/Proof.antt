@@ -4,7 +4,9 @@ use native.Mathlib.Omega.{arith}
 use borrow.Author.Needs.{needs}
 use Rattle.lists.specs.Lists.{at}
 use Rattle.lists.proofs.Totals.{at-inside}
-use Rattle.legs.proofs.Turns.{turned-some, turned-room}
+use Rattle.legs.proofs.Turns.{turned-some}
+use Rattle.laws.proofs.Served.{overdue-room}
+use Rattle.legs.specs.Parts.{turnedTo}
 use Rattle.legs.specs.Inner.{legOf}
 use Rattle.legs.proofs.Legs.{ready-owes}
 use Rattle.legs.proofs.next_leg.Statement.{statement}
@@ -37,9 +39,10 @@ element-copy-out-o : tie.Need-element-copy-out-o
 element-copy-out-o c = known (c .before)
 
 at-once-requires : tie.Need-at-once-requires
+unfolding turnedTo
 at-once-requires c κs =
     let s = c .before .before .before in
-    rw (c .before .before .turned .ensures) (turned-room (s .args .s) (s .args .c) (s .pre .sliced))
+    rw (c .before .before .turned .ensures) (overdue-room (s .args .s) (s .args .c .used) (s .pre .sliced))
 
 returns : tie.Need-returns
 unfolding legOf
