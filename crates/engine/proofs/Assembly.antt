@@ -38,8 +38,8 @@ module _ (r : Run) (T : Tidy r) where
             record {
               tidy = T;
               inside = heads-inside (r .setup) 0 (r .queued) (r .queue) head H;
-              serves = λ p.
-                  heads-serves (r .setup) 0 (r .queued) (r .queue) head H p (omega (arith, T .fits, T .whole));
+              serves = λ y.
+                  heads-serves (r .setup) 0 (r .queued) (r .queue) head H y (omega (arith, T .fits, T .whole));
             };
         queued = refl;
         shown = ap (λ (x : List ℕ). withQueue (r .setup) cursor x (r .owed) (r .given) (r .done)) queue;
@@ -61,13 +61,13 @@ pub apart-sound : (run : Run) (c : Cursor) → Sound (view run) → Apart run c
 apart-sound run c h a = subst Sound (sym (a .shown)) h
 
 pub apart-clock : (run : Run) (c : Cursor) → Apart run c → c .clock ≡ run .clock
-apart-clock run c a = ap (λ (s : State). s .clock) (a .shown)
+apart-clock run c a = ap (λ (x : State). x .clock) (a .shown)
 
-pub together : (s : Setup) (c : Cursor) (q q′ o g d : List ℕ) (r : Cursor) → Kept s c q → r ≡ straightTo s c
-    → q′ ≡ queueAt s (c .head) (c .queued) q ++ drop (c .queued) q
+pub together : (p : Setup) (c : Cursor) (q q′ o g d : List ℕ) (r : Cursor) → Kept p c q → r ≡ straightTo p c
+    → q′ ≡ queueAt p (c .head) (c .queued) q ++ drop (c .queued) q
     → Shows
     (record {
-      setup = s;
+      setup = p;
       clock = r .clock;
       idle = r .idle;
       used = r .used;
@@ -77,14 +77,14 @@ pub together : (s : Setup) (c : Cursor) (q q′ o g d : List ℕ) (r : Cursor) �
       given = g;
       done = d;
     })
-    (parts s c q o g d)
+    (parts p c q o g d)
 unfolding straightTo
-together s c q q′ o g d r K er e =
+together p c q q′ o g d r K er e =
     rw er
     record {
       tidy =
-          straight-tidy s c q K q′ e;
+          straight-tidy p c q K q′ e;
       shown =
-          ap (λ (x : List ℕ). withQueue s c x o g d)
-          (straight-take s (c .head) (c .queued) q q′ (omega (arith, K .tidy .fits, K .tidy .whole)) e);
+          ap (λ (x : List ℕ). withQueue p c x o g d)
+          (straight-take p (c .head) (c .queued) q q′ (omega (arith, K .tidy .fits, K .tidy .whole)) e);
     }

@@ -25,12 +25,12 @@ use Rattle.line.proofs.Queues.{queueAt-below, queueAt-joined}
 
 -- ---- the queue from place 0 on
 
-pub straight-queued : (s : Setup) (c r : Cursor) → r ≡ straightTo s c → r .queued ≡ c .queued
+pub straight-queued : (p : Setup) (c r : Cursor) → r ≡ straightTo p c → r .queued ≡ c .queued
 unfolding straightTo
-straight-queued s c r e = ap (λ (x : Cursor). x .queued) e
+straight-queued p c r e = ap (λ (x : Cursor). x .queued) e
 
-module _ (s : Setup) (c : Cursor) (q : List ℕ) (K : Kept s c q) (q′ : List ℕ)
-    (e : q′ ≡ queueAt s (c .head) (c .queued) q ++ drop (c .queued) q) where
+module _ (p : Setup) (c : Cursor) (q : List ℕ) (K : Kept p c q) (q′ : List ℕ)
+    (e : q′ ≡ queueAt p (c .head) (c .queued) q ++ drop (c .queued) q) where
   room : c .queued ≤ length q
   room = omega (arith, K .tidy .fits, K .tidy .whole)
 
@@ -38,33 +38,33 @@ module _ (s : Setup) (c : Cursor) (q : List ℕ) (K : Kept s c q) (q′ : List �
   straight-tidy =
       record {
         fits = K .tidy .fits;
-        whole = straight-length s (c .head) (c .queued) q q′ room e ∙ K .tidy .whole;
-        clear = straight-drop s (c .head) (c .queued) q q′ room e ∙ K .tidy .clear;
+        whole = straight-length p (c .head) (c .queued) q q′ room e ∙ K .tidy .whole;
+        clear = straight-drop p (c .head) (c .queued) q q′ room e ∙ K .tidy .clear;
       }
 
   pub straight-tasks : (task : ℕ) → c .queued < 32 → task < 32 → Tasks q → Tasks (set q′ (c .queued) task)
   straight-tasks task l b t =
       below-set 32 (c .queued) task q′ (omega (arith, straight-tidy .whole)) b
       (rw e
-      (below-append 32 (queueAt s (c .head) (c .queued) q) (drop (c .queued) q)
-      (queueAt-below s 32 (c .head) (c .queued) q t)
+      (below-append 32 (queueAt p (c .head) (c .queued) q) (drop (c .queued) q)
+      (queueAt-below p 32 (c .head) (c .queued) q t)
       (below-drop 32 (c .queued) q t)))
 
   straight-serves : 0 < c .queued
-      → at q′ (straightTo s c .head) ≡ chosen s (queueAt s (straightTo s c .head) (c .queued) q′)
+      → at q′ (straightTo p c .head) ≡ chosen p (queueAt p (straightTo p c .head) (c .queued) q′)
   unfolding straightTo
-  straight-serves p =
-      tested (isPriority s)
-      (λ f. rw (f, straight-priority s (c .head) (c .queued) q q′ room e f) (K .serves p))
-      (λ f. rw f (sym (chosen-robin s 0 (c .queued) q′ f p (omega (arith, straight-tidy .whole, K .tidy .fits)))))
+  straight-serves y =
+      tested (isPriority p)
+      (λ f. rw (f, straight-priority p (c .head) (c .queued) q q′ room e f) (K .serves y))
+      (λ f. rw f (sym (chosen-robin p 0 (c .queued) q′ f y (omega (arith, straight-tidy .whole, K .tidy .fits)))))
 
-  pub straight-heads : (r : Cursor) (task : ℕ) → r ≡ straightTo s c
-      → Heads s (r .head) (r .queued) (set q′ (r .queued) task) (r .head)
+  pub straight-heads : (r : Cursor) (task : ℕ) → r ≡ straightTo p c
+      → Heads p (r .head) (r .queued) (set q′ (r .queued) task) (r .head)
   unfolding straightTo
   straight-heads r task er =
       rw er
-      (heads-set s (straightTo s c .head) (c .queued) q′ task
-      (serves-heads s (straightTo s c .head) (c .queued) q′ (inside (isPriority s))
+      (heads-set p (straightTo p c .head) (c .queued) q′ task
+      (serves-heads p (straightTo p c .head) (c .queued) q′ (inside (isPriority p))
       (omega (arith, straight-tidy .whole, K .tidy .fits))
       straight-serves))
     where
@@ -74,9 +74,9 @@ module _ (s : Setup) (c : Cursor) (q : List ℕ) (K : Kept s c q) (q′ : List �
 
   -- ---- a task joins it
 
-  pub joined-opens : (r : Cursor) (task amount : ℕ) (o : List ℕ) (head : ℕ) → r ≡ straightTo s c → c .queued < 32
-      → Heads s (r .head) (r .queued + 1) (set q′ (r .queued) task) head
-      → Opens s c task amount q o
+  pub joined-opens : (r : Cursor) (task amount : ℕ) (o : List ℕ) (head : ℕ) → r ≡ straightTo p c → c .queued < 32
+      → Heads p (r .head) (r .queued + 1) (set q′ (r .queued) task) head
+      → Opens p c task amount q o
       (record { clock = c .clock; idle = c .idle; used = c .used; queued = r .queued + 1; head = head })
       (set q′ (r .queued) task) (set o task amount)
   unfolding straightTo
@@ -84,8 +84,8 @@ module _ (s : Setup) (c : Cursor) (q : List ℕ) (K : Kept s c q) (q′ : List �
     where
       Joins : Cursor → Type 0
       Joins r =
-          Heads s (r .head) (r .queued + 1) (set q′ (r .queued) task) head
-          → Opens s c task amount q o
+          Heads p (r .head) (r .queued + 1) (set q′ (r .queued) task) head
+          → Opens p c task amount q o
           (record { clock = c .clock; idle = c .idle; used = c .used; queued = r .queued + 1; head = head })
           (set q′ (r .queued) task) (set o task amount)
 
@@ -96,20 +96,20 @@ module _ (s : Setup) (c : Cursor) (q : List ℕ) (K : Kept s c q) (q′ : List �
       tidy =
           record { fits = omega arith; whole = whole; clear = clear-set (c .queued) task q′ b (straight-tidy .clear) }
 
-      joins : Joins (straightTo s c)
+      joins : Joins (straightTo p c)
       joins H =
           record {
             kept =
                 record {
                   tidy = tidy;
-                  inside = heads-inside s (straightTo s c .head) (c .queued + 1) (set q′ (c .queued) task) head H;
-                  serves = λ p.
-                      heads-serves s (straightTo s c .head) (c .queued + 1) (set q′ (c .queued) task) head H p
+                  inside = heads-inside p (straightTo p c .head) (c .queued + 1) (set q′ (c .queued) task) head H;
+                  serves = λ y.
+                      heads-serves p (straightTo p c .head) (c .queued + 1) (set q′ (c .queued) task) head H y
                       (omega (arith, whole));
                 };
             shown = λ g d.
                 unfold opened in
-                ap (λ (x : List ℕ). withQueue s c x (set o task amount) g d)
-                (queueAt-joined s (c .head) (c .queued) q q′ room e task head (omega (arith, K .tidy .whole))
+                ap (λ (x : List ℕ). withQueue p c x (set o task amount) g d)
+                (queueAt-joined p (c .head) (c .queued) q q′ room e task head (omega (arith, K .tidy .whole))
                 (λ f. H .robin f ∙ rw f (cond-same (ltb 0 (c .queued + 1)) 0)));
           }

@@ -20,8 +20,8 @@ use Rattle.engine.specs.declared.Completion.{Completion}
 -- ---- moves of the clock
 
 -- The parts stand for the state aim.
-pub record Reached (s : Setup) (r : Cursor) (q : List ℕ) (aim after : State) : Type 0 where
-  pub kept : Kept s r q
+pub record Reached (p : Setup) (r : Cursor) (q : List ℕ) (aim after : State) : Type 0 where
+  pub kept : Kept p r q
   pub sound : Sound after
   pub shown : after ≡ aim
 
@@ -35,21 +35,21 @@ afterAsk s t k a =
     (cond (eqb (requestRefusal s t k a) 14) (moved s t) s)
 
 -- A request's answer, and what it leaves.
-pub record Asks (s : Setup) (t k a : ℕ) (r : Asked) (q : List ℕ) (before after : State) : Type 0 where
+pub record Asks (p : Setup) (t k a : ℕ) (r : Asked) (q : List ℕ) (before after : State) : Type 0 where
   pub answer : r .refusal ≡ requestRefusal before t k a
-  pub left : Reached s (r .cursor) q (afterAsk before t k a) after
+  pub left : Reached p (r .cursor) q (afterAsk before t k a) after
 
 -- ---- the next completion
 
 -- The parts are those of a sound state, whatever was given and done.
-pub record Owing (s : Setup) (c : Cursor) (q o : List ℕ) : Type 0 where
+pub record Owing (p : Setup) (c : Cursor) (q o : List ℕ) : Type 0 where
   pub given : List ℕ
   pub done : List ℕ
-  pub sound : Sound (parts s c q o given done)
+  pub sound : Sound (parts p c q o given done)
 
 -- "the task that would be done next and when, if nothing more were asked"
 abbrev pub SoonestIs : Setup → Cursor → List ℕ → List ℕ → Completion → Type 0
-SoonestIs s c q o r = (g d : List ℕ) → Sound (parts s c q o g d) → DoneNext (parts s c q o g d) (r .task) (r .time)
+SoonestIs p c q o r = (g d : List ℕ) → Sound (parts p c q o g d) → DoneNext (parts p c q o g d) (r .task) (r .time)
 
 -- ---- a run taken apart
 

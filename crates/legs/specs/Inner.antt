@@ -13,11 +13,11 @@ use Rattle.legs.specs.declared.Cursor.{Cursor}
 use Rattle.legs.specs.declared.Leg.{Leg}
 
 -- Something is open, and what the next row of ticks reads of the parts.
-pub record Ready (s : Setup) (c : Cursor) (q o : List ℕ) : Type 0 where
-  pub kept : Kept s c q
+pub record Ready (p : Setup) (c : Cursor) (q o : List ℕ) : Type 0 where
+  pub kept : Kept p c q
   pub some : 0 < c .queued
   pub owed32 : length o ≡ 32
-  pub sliced : isPriority s ≡ false → Sliced s (c .used)
+  pub sliced : isPriority p ≡ false → Sliced p (c .used)
   pub owing : (k : ℕ) → 0 < times k (take (c .queued) q) → 0 < at o k
 
 -- How many ticks a task may have one after another: what it is owed, at most the limit, and under round robin at most

@@ -16,12 +16,12 @@ use Rattle.legs.specs.Inner.{atOnce}
 use Rattle.legs.specs.declared.Cursor.{Cursor}
 
 -- After the last n ticks that the task at the head was owed: it has left the queue, and is done.
-pub record Finished (s : Setup) (c : Cursor) (task n : ℕ) (q d : List ℕ) (r : Cursor) (q′ d′ : List ℕ) : Type 0 where
+pub record Finished (p : Setup) (c : Cursor) (task n : ℕ) (q d : List ℕ) (r : Cursor) (q′ d′ : List ℕ) : Type 0 where
   pub clock : r .clock ≡ c .clock + n
   pub idle : r .idle ≡ c .idle
   pub used : r .used ≡ 0
   pub queued : r .queued ≡ c .queued - 1
-  pub head : Heads s (c .head) (r .queued) q′ (r .head)
+  pub head : Heads p (c .head) (r .queued) q′ (r .head)
   pub left : q′ ≡ takenOut (c .head) q
   pub done : d′ ≡ set d task (c .clock + n)
 
@@ -34,6 +34,6 @@ stride s limit =
     (atOnce (s .setup) (turn s .used) (at (s .owed) (chosen (s .setup) (turn s .queue))) limit)
 
 -- The parts stand for the state after as many ticks.
-pub record Stepped (s : Setup) (r : Cursor) (q : List ℕ) (limit : ℕ) (before after : State) : Type 0 where
-  pub kept : Kept s r q
+pub record Stepped (p : Setup) (r : Cursor) (q : List ℕ) (limit : ℕ) (before after : State) : Type 0 where
+  pub kept : Kept p r q
   pub shown : after ≡ ticks (stride before limit) before

@@ -18,15 +18,15 @@ past c = c .before .before .before .before .before
 
 sound : (c : tie.After-walk)
     → let a = past c .before .before .args in
-    Sound (parts (a .s) (a .c) (a .queue .now) (a .owed .now) (a .given .now) (a .done .now))
+    Sound (parts (a .p) (a .c) (a .queue .now) (a .owed .now) (a .given .now) (a .done .now))
 sound c = past c .before .before .pre .1
 
 early : (c : tie.Else1)
-    → let a = c .before .before .args in earlyRefusal (a .s .count) (a .c .clock) (a .time) (a .task) (a .amount) ≡ 0
+    → let a = c .before .before .args in earlyRefusal (a .p .count) (a .c .clock) (a .time) (a .task) (a .amount) ≡ 0
 early c = sym (c .before .early-refusal .ensures) ∙ c .if1 .left
 
 passed : (c : tie.Else1)
-    → let a = c .before .before .args in Passed (a .s .count) (a .c .clock) (a .time) (a .task)
+    → let a = c .before .before .args in Passed (a .p .count) (a .c .clock) (a .time) (a .task)
 passed c = early-passed _ _ _ _ _ (early c)
 
 known : (c : tie.Else1) → c .before .before .args .task < 32

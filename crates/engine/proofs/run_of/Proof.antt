@@ -20,7 +20,7 @@ returns c =
     let s = c .before .before .before .before .before .before .before in
     let w = c .before .straightened in
     let a = s .args in
-    together (a .s) (a .c) (a .queue .now) _ (a .owed .now) (a .given .now) (a .done .now)
+    together (a .p) (a .c) (a .queue .now) _ (a .owed .now) (a .given .now) (a .done .now)
     (w .result) (s .pre .0) (w .ensures .0) (w .ensures .1)
 
 pub run-of-spec : {M : Type 1} → statement M

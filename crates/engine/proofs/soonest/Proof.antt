@@ -15,18 +15,18 @@ use Rattle.engine.proofs.soonest.Statement.{statement}
 use Rattle.engine.proofs.soonest.Tie as tie
 
 abbrev Inv-loop : tie.InvT-loop
-Inv-loop s queue owed left₀ c₀ left c =
-    (g d : List ℕ) → Sound (parts s c₀ queue left₀ g d) → Waits (parts s c₀ queue left₀ g d) s c queue left d
+Inv-loop p queue owed left₀ c₀ left c =
+    (g d : List ℕ) → Sound (parts p c₀ queue left₀ g d) → Waits (parts p c₀ queue left₀ g d) p c queue left d
 
 abbrev μ-loop : tie.MeasureT-loop
-μ-loop s queue owed left₀ c₀ left c = total left
+μ-loop p queue owed left₀ c₀ left c = total left
 
 -- the parts at the loop's head, with what was given and done when it was entered
 waits : (c : tie.At-loop Inv-loop μ-loop)
     → let s = c .before .before in
     let O = s .pre .1 .0 in
     let a = s .args in
-    Waits (parts (a .s) (a .from) (a .queue .now) (a .owed .now) (O .given) (O .done)) (a .s)
+    Waits (parts (a .p) (a .from) (a .queue .now) (a .owed .now) (O .given) (O .done)) (a .p)
     (c .loop .c) (s .args .queue .now) (c .loop .left) (O .done)
 waits c = let O = c .before .before .pre .1 .0 in c .loop .inv (O .given) (O .done) (O .sound)
 
@@ -36,7 +36,7 @@ module _ (c : tie.After-next-leg Inv-loop μ-loop) where
   at-loop = c .before .before
 
   abbrev leads : let a = at-loop .before .before .args in
-      c .next-leg .result ≡ legOf (a .s) (at-loop .loop .c) lastClock (a .queue .now) (at-loop .loop .left)
+      c .next-leg .result ≡ legOf (a .p) (at-loop .loop .c) lastClock (a .queue .now) (at-loop .loop .left)
   leads = c .next-leg .ensures
 
   known : c .next-leg .result .task < 32
@@ -45,7 +45,7 @@ module _ (c : tie.After-next-leg Inv-loop μ-loop) where
   time : c .next-leg .result .cursor .clock + c .next-leg .result .n ≤ lastClock
   time = waits-time (waits at-loop) (omega arith) leads
 
-  sliced : Room (at-loop .before .before .args .s) (c .next-leg .result .cursor .used) (c .next-leg .result .n)
+  sliced : Room (at-loop .before .before .args .p) (c .next-leg .result .cursor .used) (c .next-leg .result .n)
   sliced = let W = waits at-loop in leg-sliced (W .kept) (W .sound) (W .some) (omega arith) leads
 
   owed : c .next-leg .result .owed ≡ at (at-loop .loop .left) (c .next-leg .result .task)

@@ -7,11 +7,11 @@ use Rattle.engine.proofs.walk.Statement.{statement}
 use Rattle.engine.proofs.walk.Tie as tie
 
 abbrev Inv-loop : tie.InvT-loop
-Inv-loop s time queue₀ owed₀ given₀ done₀ c₀ queue owed given done c =
-    Walking time s (parts s c₀ queue₀ owed₀ given₀ done₀) c queue (parts s c queue owed given done)
+Inv-loop p time queue₀ owed₀ given₀ done₀ c₀ queue owed given done c =
+    Walking time p (parts p c₀ queue₀ owed₀ given₀ done₀) c queue (parts p c queue owed given done)
 
 abbrev μ-loop : tie.MeasureT-loop
-μ-loop s time queue₀ owed₀ given₀ done₀ c₀ queue owed given done c = time - c .clock
+μ-loop p time queue₀ owed₀ given₀ done₀ c₀ queue owed given done c = time - c .clock
 
 loop-holds : tie.Need-loop-holds Inv-loop μ-loop
 loop-holds c = walking-start (c .pre .0) (c .pre .1 .0) (c .pre .1 .1 .0)

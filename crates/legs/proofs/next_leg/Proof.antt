@@ -17,7 +17,7 @@ some : (c : tie.After-turned) → c .turned .result .head < c .before .args .c .
 some c =
     let s = c .before in
     rw (c .turned .ensures)
-    (turned-some (s .args .s) (s .args .c) (s .args .queue .now) (s .pre .kept) (s .pre .some))
+    (turned-some (s .args .p) (s .args .c) (s .args .queue .now) (s .pre .kept) (s .pre .some))
 
 owes : (c : tie.After-turned)
     → 0 < at (c .before .args .owed .now) (at (c .before .args .queue .now) (c .turned .result .head))
@@ -42,7 +42,7 @@ at-once-requires : tie.Need-at-once-requires
 unfolding turnedTo
 at-once-requires c κs =
     let s = c .before .before .before in
-    rw (c .before .before .turned .ensures) (overdue-room (s .args .s) (s .args .c .used) (s .pre .sliced))
+    rw (c .before .before .turned .ensures) (overdue-room (s .args .p) (s .args .c .used) (s .pre .sliced))
 
 returns : tie.Need-returns
 unfolding legOf

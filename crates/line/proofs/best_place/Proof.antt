@@ -27,11 +27,11 @@ element-copy-out-top c = c .before .pre .1 .0 0
 loop-holds : tie.Need-loop-holds Inv-loop μ-loop
 loop-holds c = record { inside = omega arith; stands = refl; ranks = refl; ahead = refl }
 
-cast-p : tie.Need-cast-p Inv-loop μ-loop
-cast-p c = omega (arith, c .before .before .before .before .before .pre .1 .0 (c .before .before .loop .k))
+cast-rank : tie.Need-cast-rank Inv-loop μ-loop
+cast-rank c = omega (arith, c .before .before .before .before .before .pre .1 .0 (c .before .before .loop .k))
 
-element-copy-out-p : tie.Need-element-copy-out-p Inv-loop μ-loop
-element-copy-out-p c = c .before .before .before .before .before .pre .1 .0 (c .before .before .loop .k)
+element-copy-out-rank : tie.Need-element-copy-out-rank Inv-loop μ-loop
+element-copy-out-rank c = c .before .before .before .before .before .pre .1 .0 (c .before .before .loop .k)
 
 loop-again : tie.Need-loop-again Inv-loop μ-loop
 loop-again c =
@@ -80,8 +80,8 @@ best-place-spec =
     element-copy-out-top
     loop-holds
     (λ c. search needs)
-    cast-p
-    element-copy-out-p
+    cast-rank
+    element-copy-out-rank
     (λ c κs. search needs)
     (λ c. search needs)
     (λ c. search needs)

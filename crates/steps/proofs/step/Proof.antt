@@ -17,11 +17,11 @@ module _ (c : tie.After-next-leg) where
   some : 0 < start .args .c .queued
   some = omega (arith, c .before .before .before .before .before .before .before .if1 .left)
 
-  leads : let a = start .args in c .next-leg .result ≡ legOf (a .s) (a .c) (a .limit) (a .queue .now) (a .owed .now)
+  leads : let a = start .args in c .next-leg .result ≡ legOf (a .p) (a .c) (a .limit) (a .queue .now) (a .owed .now)
   leads =
       let a = start .args in
       c .next-leg .ensures
-      ∙ legOf-slice (a .s) (a .c) (a .limit) (a .queue .now) (a .owed .now)
+      ∙ legOf-slice (a .p) (a .c) (a .limit) (a .queue .now) (a .owed .now)
       (sym (c .before .before .before .before .slice-due .ensures) ∙ c .before .before .before .if3 .taken)
 
 returns : tie.Need-returns
