@@ -37,9 +37,8 @@ module _ (r : Run) (T : Tidy r) where
         kept =
             record {
               tidy = T;
-              inside = heads-inside (r .setup) 0 (r .queued) (r .queue) head H;
-              serves = λ y.
-                  heads-serves (r .setup) 0 (r .queued) (r .queue) head H y (omega (arith, T .fits, T .whole));
+              inside = heads-inside H;
+              serves = λ y. heads-serves H y (omega (arith, T .fits, T .whole));
             };
         queued = refl;
         shown = ap (λ (x : List ℕ). withQueue (r .setup) cursor x (r .owed) (r .given) (r .done)) queue;
@@ -63,7 +62,7 @@ apart-sound run c h a = subst Sound (sym (a .shown)) h
 pub apart-clock : (run : Run) (c : Cursor) → Apart run c → c .clock ≡ run .clock
 apart-clock run c a = ap (λ (x : State). x .clock) (a .shown)
 
-pub together : (p : Setup) (c : Cursor) (q q′ o g d : List ℕ) (r : Cursor) → Kept p c q → r ≡ straightTo p c
+pub together : {p : Setup} {c : Cursor} {q q′ o g d : List ℕ} {r : Cursor} → Kept p c q → r ≡ straightTo p c
     → q′ ≡ queueAt p (c .head) (c .queued) q ++ drop (c .queued) q
     → Shows
     (record {
@@ -79,12 +78,11 @@ pub together : (p : Setup) (c : Cursor) (q q′ o g d : List ℕ) (r : Cursor) �
     })
     (parts p c q o g d)
 unfolding straightTo
-together p c q q′ o g d r K er e =
+together {p} {c} {q} {o = o} {g = g} {d = d} K er e =
     rw er
     record {
-      tidy =
-          straight-tidy p c q K q′ e;
+      tidy = straight-tidy K e;
       shown =
           ap (λ (x : List ℕ). withQueue p c x o g d)
-          (straight-take p (c .head) (c .queued) q q′ (omega (arith, K .tidy .fits, K .tidy .whole)) e);
+          (straight-take p (c .head) (c .queued) q (omega (arith, K .tidy .fits, K .tidy .whole)) e);
     }

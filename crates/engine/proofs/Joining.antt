@@ -25,11 +25,11 @@ use Rattle.line.proofs.Queues.{queueAt-below, queueAt-joined}
 
 -- ---- the queue from place 0 on
 
-pub straight-queued : (p : Setup) (c r : Cursor) → r ≡ straightTo p c → r .queued ≡ c .queued
+pub straight-queued : (p : Setup) (c : Cursor) {r : Cursor} → r ≡ straightTo p c → r .queued ≡ c .queued
 unfolding straightTo
-straight-queued p c r e = ap (λ (x : Cursor). x .queued) e
+straight-queued p c e = ap (λ (x : Cursor). x .queued) e
 
-module _ (p : Setup) (c : Cursor) (q : List ℕ) (K : Kept p c q) (q′ : List ℕ)
+module _ {p : Setup} {c : Cursor} {q : List ℕ} (K : Kept p c q) {q′ : List ℕ}
     (e : q′ ≡ queueAt p (c .head) (c .queued) q ++ drop (c .queued) q) where
   room : c .queued ≤ length q
   room = omega (arith, K .tidy .fits, K .tidy .whole)
@@ -38,12 +38,12 @@ module _ (p : Setup) (c : Cursor) (q : List ℕ) (K : Kept p c q) (q′ : List �
   straight-tidy =
       record {
         fits = K .tidy .fits;
-        whole = straight-length p (c .head) (c .queued) q q′ room e ∙ K .tidy .whole;
-        clear = straight-drop p (c .head) (c .queued) q q′ room e ∙ K .tidy .clear;
+        whole = straight-length p (c .head) (c .queued) q room e ∙ K .tidy .whole;
+        clear = straight-drop p (c .head) (c .queued) q room e ∙ K .tidy .clear;
       }
 
-  pub straight-tasks : (task : ℕ) → c .queued < 32 → task < 32 → Tasks q → Tasks (set q′ (c .queued) task)
-  straight-tasks task l b t =
+  pub straight-tasks : {task : ℕ} → c .queued < 32 → task < 32 → Tasks q → Tasks (set q′ (c .queued) task)
+  straight-tasks {task} l b t =
       below-set 32 (c .queued) task q′ (omega (arith, straight-tidy .whole)) b
       (rw e
       (below-append 32 (queueAt p (c .head) (c .queued) q) (drop (c .queued) q)
@@ -55,16 +55,16 @@ module _ (p : Setup) (c : Cursor) (q : List ℕ) (K : Kept p c q) (q′ : List �
   unfolding straightTo
   straight-serves y =
       tested (isPriority p)
-      (λ f. rw (f, straight-priority p (c .head) (c .queued) q q′ room e f) (K .serves y))
+      (λ f. rw (f, straight-priority p (c .head) (c .queued) q room e f) (K .serves y))
       (λ f. rw f (sym (chosen-robin p 0 (c .queued) q′ f y (omega (arith, straight-tidy .whole, K .tidy .fits)))))
 
-  pub straight-heads : (r : Cursor) (task : ℕ) → r ≡ straightTo p c
+  pub straight-heads : {r : Cursor} (task : ℕ) → r ≡ straightTo p c
       → Heads p (r .head) (r .queued) (set q′ (r .queued) task) (r .head)
   unfolding straightTo
-  straight-heads r task er =
+  straight-heads task er =
       rw er
-      (heads-set p (straightTo p c .head) (c .queued) q′ task
-      (serves-heads p (straightTo p c .head) (c .queued) q′ (inside (isPriority p))
+      (heads-set (c .queued) task
+      (serves-heads (c .queued) (inside (isPriority p))
       (omega (arith, straight-tidy .whole, K .tidy .fits))
       straight-serves))
     where
@@ -74,13 +74,13 @@ module _ (p : Setup) (c : Cursor) (q : List ℕ) (K : Kept p c q) (q′ : List �
 
   -- ---- a task joins it
 
-  pub joined-opens : (r : Cursor) (task amount : ℕ) (o : List ℕ) (head : ℕ) → r ≡ straightTo p c → c .queued < 32
+  pub joined-opens : {r : Cursor} {task amount : ℕ} {o : List ℕ} {head : ℕ} → r ≡ straightTo p c → c .queued < 32
       → Heads p (r .head) (r .queued + 1) (set q′ (r .queued) task) head
       → Opens p c task amount q o
       (record { clock = c .clock; idle = c .idle; used = c .used; queued = r .queued + 1; head = head })
       (set q′ (r .queued) task) (set o task amount)
   unfolding straightTo
-  joined-opens r task amount o head er b = subst Joins (sym er) joins
+  joined-opens {task = task} {amount = amount} {o = o} {head = head} er b = subst Joins (sym er) joins
     where
       Joins : Cursor → Type 0
       Joins r =
@@ -102,14 +102,12 @@ module _ (p : Setup) (c : Cursor) (q : List ℕ) (K : Kept p c q) (q′ : List �
             kept =
                 record {
                   tidy = tidy;
-                  inside = heads-inside p (straightTo p c .head) (c .queued + 1) (set q′ (c .queued) task) head H;
-                  serves = λ y.
-                      heads-serves p (straightTo p c .head) (c .queued + 1) (set q′ (c .queued) task) head H y
-                      (omega (arith, whole));
+                  inside = heads-inside H;
+                  serves = λ y. heads-serves H y (omega (arith, whole));
                 };
             shown = λ g d.
                 unfold opened in
                 ap (λ (x : List ℕ). withQueue p c x (set o task amount) g d)
-                (queueAt-joined p (c .head) (c .queued) q q′ room e task head (omega (arith, K .tidy .whole))
+                (queueAt-joined p (c .head) (c .queued) q room e task head (omega (arith, K .tidy .whole))
                 (λ f. H .robin f ∙ rw f (cond-same (ltb 0 (c .queued + 1)) 0)));
           }

@@ -42,18 +42,18 @@ module _ (s : State) (t k a : ℕ) where
 
 -- ---- the promise
 
-pub asks-early : (p : Setup) (c : Cursor) (q : List ℕ) (before : State) (t k a n : ℕ) → Kept p c q → Sound before
+pub asks-early : {p : Setup} {c : Cursor} {q : List ℕ} {before : State} {t k a n : ℕ} → Kept p c q → Sound before
     → n ≡ early before t k a → (n ≡ 0 → ⊥)
     → Asks p t k a (record { refusal = n; cursor = c }) q before before
-asks-early p c q before t k a n K S e h =
+asks-early {before = before} {t} {k} {a} K S e h =
     let h′ : early before t k a ≡ 0 → ⊥ = λ z. h (e ∙ z) in
     record {
       answer = e ∙ sym (refusal-now before t k a h′);
       left = record { kept = K; sound = S; shown = sym (asked-now before t k a h′) };
     }
 
-module _ (p : Setup) (before : State) (t k a : ℕ) (S : Sound before)
-    (e : early before t k a ≡ 0) (c : Cursor) (q o g d : List ℕ)
+module _ (t k a : ℕ) {p : Setup} {before : State} (S : Sound before) (e : early before t k a ≡ 0) {c : Cursor}
+    {q o g d : List ℕ}
     (R : Reached p c q (moved before t) (parts p c q o g d)) where
   owed-moved : at o k ≡ at (moved before t .owed) k
   owed-moved = ap (λ (x : State). at (x .owed) k) (R .shown)
@@ -83,9 +83,9 @@ module _ (p : Setup) (before : State) (t k a : ℕ) (S : Sound before)
         ap (λ (x : State). length (x .queue)) (R .shown) in
         omega (arith, queue-room before t k a S none)
 
-    pub asks-taken : (r : Cursor) (q′ o′ : List ℕ) → Opens p c k a q o r q′ o′
+    pub asks-taken : {r : Cursor} {q′ o′ : List ℕ} → Opens p c k a q o r q′ o′
         → Asks p t k a (record { refusal = 0; cursor = r }) q′ before (parts p r q′ o′ g d)
-    asks-taken r q′ o′ O =
+    asks-taken O =
         record {
           answer = sym none;
           left =

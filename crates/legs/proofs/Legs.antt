@@ -133,7 +133,7 @@ module _ {p : Setup} {c : Cursor} {q o g d : List ℕ} (K : Kept p c q) (S : Sou
     leg-clock = unfold turnedTo in ap (λ (x : Cursor). x .clock) turned
 
     pub leg-kept : Kept p (l .cursor) q
-    leg-kept = rw turned (turned-kept p c q K some)
+    leg-kept = rw turned (turned-kept K some)
 
     pub leg-some : 0 < l .cursor .queued
     leg-some = omega (arith, leg-queued)
@@ -141,7 +141,7 @@ module _ {p : Setup} {c : Cursor} {q o g d : List ℕ} (K : Kept p c q) (S : Sou
     open-task : 0 < at o (l .task)
     open-task =
         rw (leg-task, turned)
-        (ready-owes (ready some) (turnedTo p c .head) (turned-some p c q K some))
+        (ready-owes (ready some) (turnedTo p c .head) (turned-some K some))
 
     pub leg-known : l .task < 32
     leg-known = omega (arith, at-inside o (l .task) open-task, S .owed32)
@@ -171,7 +171,7 @@ module _ {p : Setup} {c : Cursor} {q o g d : List ℕ} (K : Kept p c q) (S : Sou
     -- ---- the state after it
 
     pub leg-turn : parts p (l .cursor) q o g d ≡ turn (parts p c q o g d)
-    leg-turn = ap (λ (x : Cursor). parts p x q o g d) turned ∙ parts-turn p c q K some o g d
+    leg-turn = ap (λ (x : Cursor). parts p x q o g d) turned ∙ parts-turn K some
 
     pub leg-chosen : l .task ≡ chosen p (queueAt p (l .cursor .head) (l .cursor .queued) q)
     leg-chosen = leg-task ∙ leg-kept .serves leg-some

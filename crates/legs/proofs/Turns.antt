@@ -45,7 +45,7 @@ next-below h n false l = l
 next-below h n true l =
     tested (eqb (h + 1) n) (λ e. rw e (omega arith)) (λ e. rw e (omega (arith, eqb-false (h + 1) n e)))
 
-module _ (p : Setup) (c : Cursor) (q : List ℕ) (K : Kept p c q) (some : 0 < c .queued) where
+module _ {p : Setup} {c : Cursor} {q : List ℕ} (K : Kept p c q) (some : 0 < c .queued) where
   pub turned-some : turnedTo p c .head < c .queued
   unfolding turnedTo
   turned-some = next-below (c .head) (c .queued) (overdue p (c .used)) (omega (arith, K .inside))
@@ -82,7 +82,6 @@ module _ (p : Setup) (c : Cursor) (q : List ℕ) (K : Kept p c q) (some : 0 < c 
       ap (λ (x : ℕ). queueAt p x n q) (cond-false (nextPlace c) h f)
       ∙ sym (cond-false (headBack (queueAt p h n q)) (queueAt p h n q) f))
 
-  pub parts-turn : (o g d : List ℕ) → parts p (turnedTo p c) q o g d ≡ turn (parts p c q o g d)
+  pub parts-turn : {o g d : List ℕ} → parts p (turnedTo p c) q o g d ≡ turn (parts p c q o g d)
   unfolding turn overdue turnedTo
-  parts-turn o g d =
-      ap (λ (x : List ℕ). withQueue p (turnedTo p c) x o g d) queue-turn
+  parts-turn {o} {g} {d} = ap (λ (x : List ℕ). withQueue p (turnedTo p c) x o g d) queue-turn

@@ -38,7 +38,7 @@ chosen-robin p h n q e b l = ap (chosen p) (queueAt-robin p h n q e ∙ ring-hea
 -- ---- heads
 
 -- the task a, with priority x, and another, with priority y
-module _ (prio : List ℕ) (a b x y : ℕ) (ex : x ≡ at prio a) (ey : y ≡ at prio b) where
+module _ (prio : List ℕ) (a b : ℕ) {x y : ℕ} (ex : x ≡ at prio a) (ey : y ≡ at prio b) where
   pub before-stays : y < x → before prio a b ≡ a
   unfolding before
   before-stays h = rw (← ex, ← ey, le-ltb x y (omega arith), lt-ltb y x h)
@@ -54,30 +54,36 @@ pub record Scanned (prio : List ℕ) (n : ℕ) (q : List ℕ) (place task top k 
   pub ranks : top ≡ at prio task
   pub ahead : best prio (at q 0) (drop 1 (take n q)) ≡ best prio (at q place) (drop k (take n q))
 
--- the place k is passed, and of the two tasks that at j goes first
-pub scanned-step : (prio : List ℕ) (n : ℕ) (q : List ℕ) (place task top k j place′ task′ top′ : ℕ) → k < n
-    → n ≤ length q → Scanned prio n q place task top k → j ≤ n - 1 → before prio task (at q k) ≡ at q j → place′ ≡ j
-    → task′ ≡ at q j → top′ ≡ at prio (at q j) → Scanned prio n q place′ task′ top′ (k + 1)
-unfolding best
-scanned-step prio n q place task top k j place′ task′ top′ h l S i e y t r =
-    record {
-      inside = omega arith;
-      stands = t ∙ ap (at q) (sym y);
-      ranks = r ∙ ap (at prio) (sym t);
-      ahead =
-          S .ahead
-          ∙ ap (best prio (at q place)) (slice-cons k n q 0 h l)
-          ∙ ap (λ (x : ℕ). best prio (before prio x (at q k)) (drop (suc k) (take n q))) (sym (S .stands))
-          ∙ ap (λ (x : ℕ). best prio x (drop (suc k) (take n q))) (e ∙ ap (at q) (sym y))
-          ∙ ap (λ (m : ℕ). best prio (at q place′) (drop m (take n q))) (sym (add-one k));
-    }
+module _ {prio : List ℕ} {n : ℕ} {q : List ℕ} {place task top k : ℕ} (S : Scanned prio n q place task top k)
+    (l : n ≤ length q) where
+  -- the place k is passed, and of the two tasks that at j goes first
+  pub scanned-step : {j place′ task′ top′ : ℕ} → k < n → j ≤ n - 1 → before prio task (at q k) ≡ at q j → place′ ≡ j
+      → task′ ≡ at q j → top′ ≡ at prio (at q j) → Scanned prio n q place′ task′ top′ (k + 1)
+  unfolding best
+  scanned-step {place′ = place′} h i e ep et er =
+      record {
+        inside = omega arith;
+        stands = et ∙ ap (at q) (sym ep);
+        ranks = er ∙ ap (at prio) (sym et);
+        ahead =
+            S .ahead
+            ∙ ap (best prio (at q place)) (slice-cons k n q 0 h l)
+            ∙ ap (λ (x : ℕ). best prio (before prio x (at q k)) (drop (suc k) (take n q))) (sym (S .stands))
+            ∙ ap (λ (x : ℕ). best prio x (drop (suc k) (take n q))) (e ∙ ap (at q) (sym ep))
+            ∙ ap (λ (m : ℕ). best prio (at q place′) (drop m (take n q))) (sym (add-one k));
+      }
 
-pub scanned-end : (prio : List ℕ) (n : ℕ) (q : List ℕ) (place task top k : ℕ) → n ≤ k → n ≤ length q
-    → Scanned prio n q place task top k → Best prio n q place
-unfolding best
-scanned-end prio n q place task top k h l S =
-    let z : drop k (take n q) ≡ [] = drop-of-length-le (take n q) {i = k} (omega (arith, length-take-le n q l)) in
-    record { inside = S .inside; first = sym (S .ahead ∙ ap (best prio (at q place)) z) }
+  -- the task before goes first still
+  pub scanned-stays : {place′ task′ top′ : ℕ} → k < n → before prio task (at q k) ≡ task → place′ ≡ place → task′ ≡ task
+      → top′ ≡ top → Scanned prio n q place′ task′ top′ (k + 1)
+  scanned-stays h e ep et er =
+      scanned-step h (S .inside) (e ∙ S .stands) ep (et ∙ S .stands) (er ∙ S .ranks ∙ ap (at prio) (S .stands))
+
+  pub scanned-end : n ≤ k → Best prio n q place
+  unfolding best
+  scanned-end h =
+      let z : drop k (take n q) ≡ [] = drop-of-length-le (take n q) {i = k} (omega (arith, length-take-le n q l)) in
+      record { inside = S .inside; first = sym (S .ahead ∙ ap (best prio (at q place)) z) }
 
 before-same : (prio : List ℕ) (a : ℕ) → before prio a a ≡ a
 unfolding before
@@ -90,7 +96,7 @@ unfolding best
 best-append prio b [] y = refl
 best-append prio b (x ∷ xs) y = best-append prio (before prio b x) xs y
 
-module _ (p : Setup) (h n : ℕ) (q : List ℕ) (r : ℕ) (H : Heads p h n q r) where
+module _ {p : Setup} {h n : ℕ} {q : List ℕ} {r : ℕ} (H : Heads p h n q r) where
   pub heads-inside : r ≤ n - 1
   heads-inside =
       tested (isPriority p)
@@ -107,16 +113,16 @@ module _ (p : Setup) (h n : ℕ) (q : List ℕ) (r : ℕ) (H : Heads p h n q r) 
       (λ e. sym (chosen-robin p r n q e (omega (arith, heads-inside)) l))
 
 -- a head at which the chosen task stands
-pub serves-heads : (p : Setup) (h n : ℕ) (q : List ℕ) → h ≤ n - 1 → n ≤ length q
+pub serves-heads : {p : Setup} {h : ℕ} (n : ℕ) {q : List ℕ} → h ≤ n - 1 → n ≤ length q
     → (0 < n → at q h ≡ chosen p (queueAt p h n q)) → Heads p h n q h
 unfolding best
-serves-heads p h zero q b l c =
+serves-heads {h = h} zero b l c =
     let z : h ≡ 0 = omega arith in
     record {
       robin = λ e. rw z;
       priority = λ e. record { inside = b; first = rw z };
     }
-serves-heads p h (suc n) q b l c =
+serves-heads {p} {h} (suc n) {q} b l c =
     record {
       robin = λ e. sym (cond-true h 0 (lt-ltb h (suc n) (omega arith)));
       priority = λ e.
@@ -130,16 +136,16 @@ serves-heads p h (suc n) q b l c =
     }
 
 -- what stands behind the queue does not matter
-pub heads-set : (p : Setup) (h n : ℕ) (q : List ℕ) (k : ℕ) → Heads p h n q h → Heads p h n (set q n k) h
+pub heads-set : {p : Setup} {h : ℕ} (n : ℕ) {q : List ℕ} (k : ℕ) → Heads p h n q h → Heads p h n (set q n k) h
 unfolding best
-heads-set p h zero q k H =
-    let z : h ≡ 0 = omega (arith, heads-inside p h zero q h H) in
+heads-set {h = h} zero k H =
+    let z : h ≡ 0 = omega (arith, heads-inside H) in
     record {
       robin = H .robin;
       priority = λ e. record { inside = H .priority e .inside; first = rw z };
     }
-heads-set p h (suc n) q k H =
-    let b : h ≤ suc n - 1 = heads-inside p h (suc n) q h H in
+heads-set {p} {h} (suc n) {q} k H =
+    let b : h ≤ suc n - 1 = heads-inside H in
     let o : at (set q (suc n) k) h ≡ at q h = at-set-other q (suc n) k h (λ e. omega arith) in
     let z : at (set q (suc n) k) 0 ≡ at q 0 = at-set-other q (suc n) k 0 (λ e. omega arith) in
     record {
@@ -157,10 +163,10 @@ heads-set p h (suc n) q k H =
     }
 
 -- one more task: of it and the best of the others, the one that goes first
-pub best-more : (prio q : List ℕ) (h n r : ℕ) → n < length q → r ≤ n → before prio (at q h) (at q n) ≡ at q r
-    → Best prio n q h → Best prio (n + 1) q r
+pub best-more : {prio q : List ℕ} {h n r : ℕ} → Best prio n q h → n < length q → r ≤ n
+    → before prio (at q h) (at q n) ≡ at q r → Best prio (n + 1) q r
 unfolding best
-best-more prio q h n r l i e B =
+best-more {prio} {q} {n = n} B l i e =
     record {
       inside = omega arith;
       first = sym e ∙ ap (λ (k : ℕ). before prio k (at q n)) (B .first) ∙ more q n l;

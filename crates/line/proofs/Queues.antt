@@ -81,7 +81,7 @@ queueAt-takenOut p h n q r b l once e =
 
 -- ---- the queue from place 0 on, and a task that joins it
 
-module _ (p : Setup) (h n : ℕ) (q q′ : List ℕ) (l : n ≤ length q) (e : q′ ≡ queueAt p h n q ++ drop n q) where
+module _ (p : Setup) (h n : ℕ) (q : List ℕ) {q′ : List ℕ} (l : n ≤ length q) (e : q′ ≡ queueAt p h n q ++ drop n q) where
   pub straight-take : take n q′ ≡ queueAt p h n q
   straight-take = ap (take n) e ∙ take-at (queueAt p h n q) (drop n q) n (queueAt-length p h n q l)
 

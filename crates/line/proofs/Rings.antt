@@ -135,19 +135,19 @@ clear-behind q n z =
     ∙ sym (replicate-append-replicate (32 - n) 1 0)
     ∙ ap (λ (y : List ℕ). y ++ 0 ∷ []) (sym z)
 
-module _ (h : ℕ) (q : List ℕ) (b : h < 32) (w : length q ≡ 32) where
+module _ {h : ℕ} (b : h < 32) (q : List ℕ) (w : length q ≡ 32) where
   pub movedUp-start : MovedUp h q h q
   movedUp-start =
       let z : 0 ≡ h - h = omega arith in
       paste-zero q h (drop (h + 1) q) ∙ ap (λ (j : ℕ). paste q h (drop (h + 1) q) j) z
 
-  pub movedUp-length : (k : ℕ) (x : List ℕ) → h ≤ k → k < 32 → MovedUp h q k x → length x ≡ 32
-  movedUp-length k x a l e =
+  pub movedUp-length : {k : ℕ} {x : List ℕ} → h ≤ k → k < 32 → MovedUp h q k x → length x ≡ 32
+  movedUp-length {k} a l e =
       ap length e ∙ length-paste q h (drop (h + 1) q) (k - h) (omega arith) (simp length-drop (omega arith)) ∙ w
 
-  pub movedUp-step : (k : ℕ) (x : List ℕ) → h ≤ k → k < 31 → MovedUp h q k x
+  pub movedUp-step : {k : ℕ} {x : List ℕ} → h ≤ k → k < 31 → MovedUp h q k x
       → MovedUp h q (k + 1) (set x k (at x (k + 1)))
-  movedUp-step k x a l e =
+  movedUp-step {k} {x} a l e =
       let j = k - h in
       let t = drop (h + 1) q in
       let f : h + j ≡ k = omega arith in
@@ -168,9 +168,9 @@ module _ (h : ℕ) (q : List ℕ) (b : h < 32) (w : length q ≡ 32) where
       ∙ ap (λ (y : ℕ). paste q h t y) i
 
   -- the last place is cleared, as those behind the n tasks are
-  pub movedUp-end : (n k : ℕ) (x : List ℕ) → h < n → n ≤ 32 → drop n q ≡ replicate (32 - n) 0 → k ≡ n - 1
+  pub movedUp-end : {n k : ℕ} {x : List ℕ} → h < n → n ≤ 32 → drop n q ≡ replicate (32 - n) 0 → k ≡ n - 1
       → MovedUp h q k x → set x (n - 1) 0 ≡ takenOut h q
-  movedUp-end n k x a l z i e =
+  movedUp-end {n} {k} a l z i e =
       let m = n - 1 - h in
       let t = drop (h + 1) q in
       let p = take h q ++ take m t in

@@ -178,8 +178,8 @@ module _ {p : Setup} {c : Cursor} {q o g d : List ℕ} (K : Kept p c q) (S : Sou
                       ∙ replicate-append-replicate (32 - n) 1 0
                       ∙ ap (λ (x : ℕ). replicate x 0) z;
                 };
-            inside = heads-inside p h (r .queued) q′ (r .head) (F .head);
-            serves = λ y. heads-serves p h (r .queued) q′ (r .head) (F .head) y (omega arith);
+            inside = heads-inside (F .head);
+            serves = λ y. heads-serves (F .head) y (omega arith);
           }
 
       pub finished-stepped : {o′ g′ : List ℕ} → at o (l .task) ≡ l .n → o′ ≡ owedAfter l o → g′ ≡ givenAfter l g

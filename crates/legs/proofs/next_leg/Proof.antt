@@ -15,9 +15,7 @@ use Rattle.legs.proofs.next_leg.Tie as tie
 -- after the turn the head stands in the queue, and its task is owed ticks
 some : (c : tie.After-turned) → c .turned .result .head < c .before .args .c .queued
 some c =
-    let s = c .before in
-    rw (c .turned .ensures)
-    (turned-some (s .args .p) (s .args .c) (s .args .queue .now) (s .pre .kept) (s .pre .some))
+    rw (c .turned .ensures) (turned-some (c .before .pre .kept) (c .before .pre .some))
 
 owes : (c : tie.After-turned)
     → 0 < at (c .before .args .owed .now) (at (c .before .args .queue .now) (c .turned .result .head))
