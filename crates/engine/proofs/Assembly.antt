@@ -15,9 +15,9 @@ use Rattle.laws.specs.Sound.{Sound}
 use Rattle.line.specs.Places.{queueAt, Tasks, Heads}
 use Rattle.legs.specs.Parts.{withQueue, parts, Kept}
 use Rattle.legs.specs.declared.Cursor.{Cursor}
-use Rattle.engine.specs.Inner.{straightTo}
+use Rattle.engine.specs.Joining.{straightTo}
 use Rattle.engine.specs.Promises.{Apart}
-use Rattle.line.proofs.Queues.{queueAt-priority, queueAt-zero, straight-take}
+use Rattle.line.proofs.Queues.{queueAt-priority, queueAt-zero, take-straight}
 use Rattle.line.proofs.Heads.{heads-inside, heads-serves}
 use Rattle.engine.proofs.Joining.{straight-tidy}
 use Rattle.legs.proofs.Legs.{places-tasks}
@@ -84,5 +84,5 @@ together {p} {c} {q} {o = o} {g = g} {d = d} K er e =
       tidy = straight-tidy K e;
       shown =
           ap (λ (x : List ℕ). withQueue p c x o g d)
-          (straight-take p (c .head) (c .queued) q (omega (arith, K .tidy .fits, K .tidy .whole)) e);
+          (take-straight p (c .head) (c .queued) q (omega (arith, K .tidy .fits, K .tidy .whole)) e);
     }

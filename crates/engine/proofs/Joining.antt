@@ -17,11 +17,11 @@ use Rattle.rule.specs.declared.Setup.{Setup}
 use Rattle.line.specs.Places.{queueAt, Tasks, Heads}
 use Rattle.legs.specs.Parts.{withQueue, Kept}
 use Rattle.legs.specs.declared.Cursor.{Cursor}
-use Rattle.engine.specs.Inner.{straightTo, Opens}
+use Rattle.engine.specs.Joining.{straightTo, Opens}
 use Rattle.line.proofs.Rings.{clear-set}
 use Rattle.line.proofs.Heads.{chosen-robin, heads-inside, heads-serves, serves-heads, heads-set}
-use Rattle.line.proofs.Queues.{straight-drop, straight-length, straight-priority}
-use Rattle.line.proofs.Queues.{queueAt-below, queueAt-joined}
+use Rattle.line.proofs.Queues.{drop-straight, length-straight, straight-priority}
+use Rattle.line.proofs.Queues.{below-queueAt, queueAt-joined}
 
 -- ---- the queue from place 0 on
 
@@ -38,8 +38,8 @@ module _ {p : Setup} {c : Cursor} {q : List ℕ} (K : Kept p c q) {q′ : List �
   straight-tidy =
       record {
         fits = K .tidy .fits;
-        whole = straight-length p (c .head) (c .queued) q room e ∙ K .tidy .whole;
-        clear = straight-drop p (c .head) (c .queued) q room e ∙ K .tidy .clear;
+        whole = length-straight p (c .head) (c .queued) q room e ∙ K .tidy .whole;
+        clear = drop-straight p (c .head) (c .queued) q room e ∙ K .tidy .clear;
       }
 
   pub straight-tasks : {task : ℕ} → c .queued < 32 → task < 32 → Tasks q → Tasks (set q′ (c .queued) task)
@@ -47,7 +47,7 @@ module _ {p : Setup} {c : Cursor} {q : List ℕ} (K : Kept p c q) {q′ : List �
       below-set 32 (c .queued) task q′ (omega (arith, straight-tidy .whole)) b
       (rw e
       (below-append 32 (queueAt p (c .head) (c .queued) q) (drop (c .queued) q)
-      (queueAt-below p 32 (c .head) (c .queued) q t)
+      (below-queueAt p 32 (c .head) (c .queued) q t)
       (below-drop 32 (c .queued) q t)))
 
   straight-serves : 0 < c .queued

@@ -16,10 +16,10 @@ use Rattle.laws.proofs.Made.{request-sound, queue-room}
 use Rattle.requests.proofs.Early.{early, early-between, refusal-now, refusal-open, refusal-none}
 use Rattle.line.specs.Places.{queueAt}
 use Rattle.legs.specs.Parts.{parts, Kept}
-use Rattle.engine.specs.Inner.{Opens}
+use Rattle.engine.specs.Joining.{Opens}
 use Rattle.engine.specs.Promises.{Reached, afterAsk, Asks}
 use Rattle.legs.specs.declared.Cursor.{Cursor}
-use Rattle.line.proofs.Queues.{queueAt-length}
+use Rattle.line.proofs.Queues.{length-queueAt}
 
 -- ---- what the request leaves
 
@@ -78,7 +78,7 @@ module _ (t k a : ℕ) {p : Setup} {before : State} (S : Sound before) (e : earl
     -- a task that is not open has a place in the queue's array
     pub asks-room : c .queued < 32
     asks-room =
-        let l = queueAt-length p (c .head) (c .queued) q (omega (arith, R .kept .tidy .fits, R .kept .tidy .whole)) in
+        let l = length-queueAt p (c .head) (c .queued) q (omega (arith, R .kept .tidy .fits, R .kept .tidy .whole)) in
         let m : length (queueAt p (c .head) (c .queued) q) ≡ length (moved before t .queue) =
         ap (λ (x : State). length (x .queue)) (R .shown) in
         omega (arith, queue-room before t k a S none)

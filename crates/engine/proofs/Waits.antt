@@ -16,7 +16,7 @@ use Rattle.laws.specs.Next.{DoneNext}
 use Rattle.laws.proofs.Sound.{ticks-sound}
 use Rattle.laws.proofs.NextDone.{next-jumped, next-passed}
 use Rattle.legs.specs.Parts.{parts, Kept, servedTo}
-use Rattle.legs.specs.Inner.{legOf}
+use Rattle.legs.specs.Legs.{legOf}
 use Rattle.legs.specs.declared.Cursor.{Cursor}
 use Rattle.legs.specs.declared.Leg.{Leg}
 use Rattle.legs.proofs.Legs.{leg-owed, leg-clock, leg-owes, leg-gets, leg-sliced, leg-turn, leg-chosen, leg-some}

@@ -12,8 +12,8 @@ use Rattle.laws.proofs.Ticks.{ticks-zero, ticks-add, ticks-clock}
 use Rattle.laws.proofs.Sound.{ticks-sound}
 use Rattle.legs.specs.Parts.{Kept}
 use Rattle.legs.specs.declared.Cursor.{Cursor}
-use Rattle.steps.specs.Inner.{stride, Stepped}
-use Rattle.steps.proofs.Stepped.{stepped-later, stepped-soon}
+use Rattle.steps.specs.Steps.{stride, Stepped}
+use Rattle.steps.proofs.Steps.{stepped-later, stepped-soon}
 use Rattle.engine.specs.Promises.{Reached}
 
 -- the parts stand for the state now, which comes of start by ticks

@@ -15,7 +15,7 @@ use Rattle.laws.specs.Next.{DoneNext}
 use Rattle.legs.specs.Parts.{parts, Kept}
 use Rattle.legs.specs.declared.Cursor.{Cursor}
 use Rattle.engine.specs.declared.Asked.{Asked}
-use Rattle.engine.specs.declared.Completion.{Completion}
+use Rattle.engine.specs.declared.NextDone.{NextDone}
 
 -- ---- moves of the clock
 
@@ -48,7 +48,7 @@ pub record Owing (p : Setup) (c : Cursor) (q o : List ℕ) : Type 0 where
   pub sound : Sound (parts p c q o given done)
 
 -- "the task that would be done next and when, if nothing more were asked"
-abbrev pub SoonestIs : Setup → Cursor → List ℕ → List ℕ → Completion → Type 0
+abbrev pub SoonestIs : Setup → Cursor → List ℕ → List ℕ → NextDone → Type 0
 SoonestIs p c q o r = (g d : List ℕ) → Sound (parts p c q o g d) → DoneNext (parts p c q o g d) (r .task) (r .time)
 
 -- ---- a run taken apart

@@ -120,13 +120,13 @@ pub fn ask(
 }
 
 // A task, and when it is done.
-pub struct Completion {
+pub struct NextDone {
     pub task: u32,
     pub time: u32,
 }
 
 // The task that is done next, and when, if nothing more is asked. Something is open.
-pub fn soonest(p: Setup, from: Cursor, queue: &[u8; 32], owed: &[u32; 32]) -> Completion
+pub fn soonest(p: Setup, from: Cursor, queue: &[u8; 32], owed: &[u32; 32]) -> NextDone
     requires { ⌜ Kept p from (now queue) ⌝ }
     requires { ⌜ Owing p from (now queue) (now owed) ⌝ }
     requires { ⌜ 0 < from .queued ⌝ }
@@ -139,7 +139,7 @@ pub fn soonest(p: Setup, from: Cursor, queue: &[u8; 32], owed: &[u32; 32]) -> Co
         let leg = legs::next_leg(p, c, 4_032_000_000, queue, &left);
         let ready = leg.cursor;
         if leg.owed == leg.n {
-            return Completion {
+            return NextDone {
                 task: leg.task as u32,
                 time: ready.clock + leg.n,
             };

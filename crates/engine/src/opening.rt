@@ -7,7 +7,7 @@ ghost use mathlib.Core.List.{_++_};
 ghost use lib.ListN.{drop};
 ghost use Rattle.line.specs.Places.{queueAt, Tasks};
 ghost use Rattle.legs.specs.Parts.{Kept};
-ghost use Rattle.engine.specs.Inner.{straightTo, Opens};
+ghost use Rattle.engine.specs.Joining.{straightTo, Opens};
 
 // The queue from place 0 on.
 pub fn straightened(p: Setup, c: Cursor, queue: &mut [u8; 32]) -> Cursor

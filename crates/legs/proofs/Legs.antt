@@ -22,9 +22,9 @@ use Rattle.laws.specs.Drains.{lastClock}
 use Rattle.laws.proofs.Served.{overdue-room}
 use Rattle.laws.proofs.Jump.{ticks-jump}
 use Rattle.line.specs.Places.{queueAt, Tasks}
-use Rattle.line.proofs.Queues.{queueAt-times, queueAt-length}
+use Rattle.line.proofs.Queues.{times-queueAt, length-queueAt}
 use Rattle.legs.specs.Parts.{parts, Kept, sliceDue, turnedTo, servedTo}
-use Rattle.legs.specs.Inner.{Ready, atOnce, legOf, owedAfter, givenAfter}
+use Rattle.legs.specs.Legs.{Ready, atOnce, legOf, owedAfter, givenAfter}
 use Rattle.legs.specs.declared.Cursor.{Cursor}
 use Rattle.legs.specs.declared.Leg.{Leg}
 use Rattle.legs.proofs.Turns.{sliceDue-robin, sliceDue-whole, turned-used, turned-some, turned-kept}
@@ -62,7 +62,8 @@ unfolding legOf
 legOf-slice p c limit q o e =
     let task = at q (turnedTo p c .head) in
     ap (λ (n : ℕ). record { cursor = turnedTo p c; task = task; owed = at o task; n = n })
-    (rw (turned-used p c limit e) (atOnce-whole p (at o task) limit (sliceDue-robin p c limit e) (sliceDue-whole p c limit e)))
+    (rw (turned-used p c limit e)
+    (atOnce-whole p (at o task) limit (sliceDue-robin p c limit e) (sliceDue-whole p c limit e)))
 
 -- ---- the tasks in the array
 
@@ -94,12 +95,12 @@ ready-owes {p} {c} {q} {o} R =
 -- ---- the parts of a sound state
 
 module _ {p : Setup} {c : Cursor} {q o g d : List ℕ} (K : Kept p c q) (S : Sound (parts p c q o g d)) where
-  pub front-times : (h k : ℕ) → times k (queueAt p h (c .queued) q) ≡ min 1 (at o k)
-  front-times h k =
-      omega (arith, queueAt-times p k h (c .queued) q, queueAt-times p k (c .head) (c .queued) q, S .queued k)
+  pub times-front : (h k : ℕ) → times k (queueAt p h (c .queued) q) ≡ min 1 (at o k)
+  times-front h k =
+      omega (arith, times-queueAt p k h (c .queued) q, times-queueAt p k (c .head) (c .queued) q, S .queued k)
 
   owing : (k : ℕ) → 0 < times k (take (c .queued) q) → 0 < at o k
-  owing k l = omega (arith, queueAt-times p k (c .head) (c .queued) q, S .queued k)
+  owing k l = omega (arith, times-queueAt p k (c .head) (c .queued) q, S .queued k)
 
   pub ready : 0 < c .queued → Ready p c q o
   ready h = record { kept = K; some = h; owed32 = S .owed32; sliced = S .sliced; owing = owing }
@@ -177,7 +178,7 @@ module _ {p : Setup} {c : Cursor} {q o g d : List ℕ} (K : Kept p c q) (S : Sou
     leg-chosen = leg-task ∙ leg-kept .serves leg-some
 
     pub parts-some : 0 < length (queueAt p (c .head) (c .queued) q)
-    parts-some = rw (queueAt-length p (c .head) (c .queued) q (omega (arith, K .tidy .fits, K .tidy .whole))) some
+    parts-some = rw (length-queueAt p (c .head) (c .queued) q (omega (arith, K .tidy .fits, K .tidy .whole))) some
 
     pub leg-ticks : give (parts p (l .cursor) q o g d) (l .task) (l .n) ≡ ticks (l .n) (parts p c q o g d)
     leg-ticks =
@@ -193,6 +194,7 @@ module _ {p : Setup} {c : Cursor} {q o g d : List ℕ} (K : Kept p c q) (S : Sou
         record { tidy = k .tidy; inside = k .inside; serves = k .serves }
 
     pub served-ticks : l .n < at o (l .task)
-        → parts p (servedTo p (l .cursor) (l .n)) q (owedAfter l o) (givenAfter l g) d ≡ ticks (l .n) (parts p c q o g d)
+        → parts p (servedTo p (l .cursor) (l .n)) q (owedAfter l o) (givenAfter l g) d
+        ≡ ticks (l .n) (parts p c q o g d)
     unfolding give servedTo
     served-ticks h = simp (ne-eqb (at o (l .task)) (l .n) (omega arith)) at leg-ticks

@@ -14,7 +14,7 @@ use Rattle.rule.specs.declared.Setup.{Setup}
 use Rattle.line.specs.Places.{queueAt}
 use Rattle.legs.specs.Parts.{withQueue, parts, Kept, sliceDue, nextPlace, turnedTo}
 use Rattle.legs.specs.declared.Cursor.{Cursor}
-use Rattle.line.proofs.Rings.{ring-next}
+use Rattle.line.proofs.Rings.{headBack-ring}
 use Rattle.line.proofs.Queues.{queueAt-robin}
 use Rattle.line.proofs.Heads.{chosen-robin}
 
@@ -64,10 +64,10 @@ module _ {p : Setup} {c : Cursor} {q : List ℕ} (K : Kept p c q) (some : 0 < c 
             (λ f. rw f (K .serves y));
       }
 
-  queue-turn : queueAt p (turnedTo p c .head) (c .queued) q
+  queueAt-turned : queueAt p (turnedTo p c .head) (c .queued) q
       ≡ cond (overdue p (c .used)) (headBack (queueAt p (c .head) (c .queued) q)) (queueAt p (c .head) (c .queued) q)
   unfolding turnedTo
-  queue-turn =
+  queueAt-turned =
       let h = c .head in
       let n = c .queued in
       tested (overdue p (c .used))
@@ -75,7 +75,7 @@ module _ {p : Setup} {c : Cursor} {q : List ℕ} (K : Kept p c q) (some : 0 < c 
       let e : isPriority p ≡ false = overdue-robin p (c .used) f in
       ap (λ (x : ℕ). queueAt p x n q) (cond-true (nextPlace c) h f)
       ∙ queueAt-robin p (nextPlace c) n q e
-      ∙ sym (ring-next h n q (omega (arith, K .inside)) (omega (arith, K .tidy .fits, K .tidy .whole)))
+      ∙ sym (headBack-ring h n q (omega (arith, K .inside)) (omega (arith, K .tidy .fits, K .tidy .whole)))
       ∙ ap headBack (sym (queueAt-robin p h n q e))
       ∙ sym (cond-true (headBack (queueAt p h n q)) (queueAt p h n q) f))
       (λ f.
@@ -84,4 +84,4 @@ module _ {p : Setup} {c : Cursor} {q : List ℕ} (K : Kept p c q) (some : 0 < c 
 
   pub parts-turn : {o g d : List ℕ} → parts p (turnedTo p c) q o g d ≡ turn (parts p c q o g d)
   unfolding turn overdue turnedTo
-  parts-turn {o} {g} {d} = ap (λ (x : List ℕ). withQueue p (turnedTo p c) x o g d) queue-turn
+  parts-turn {o} {g} {d} = ap (λ (x : List ℕ). withQueue p (turnedTo p c) x o g d) queueAt-turned

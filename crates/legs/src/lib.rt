@@ -1,12 +1,12 @@
-// The cursor of a run taken apart, and the next row of ticks to one task. In order: the cursor, the turn, the next row of
-// ticks, the cursor after ticks.
+// The cursor of a run taken apart, and its next leg: ticks one after another to one task. In order: the cursor, the
+// turn, the leg, the cursor after ticks.
 use rule::Setup;
 ghost use mathlib.Core.Path.{_≡_};
 ghost use Prim.Native.Nat.{_+_, _≤_, _<_, _^_, min};
 ghost use Rattle.rule.specs.Tick.{usedMore};
 ghost use Rattle.laws.specs.Sound.{Room};
 ghost use Rattle.legs.specs.Parts.{turnedTo, sliceDue, servedTo, restedTo};
-ghost use Rattle.legs.specs.Inner.{Ready, atOnce, legOf};
+ghost use Rattle.legs.specs.Legs.{Ready, atOnce, legOf};
 
 // The small numbers of a run, which a move of the clock keeps in registers. The head is the place of the task that is
 // served. The idle ticks are as wide as the places so that no byte of the struct is padding: with padding a step under
@@ -49,13 +49,14 @@ fn turned(p: Setup, c: Cursor) -> Cursor
     }
 }
 
+// The smaller of two numbers.
 fn least(a: u32, b: u32) -> u32
     ensures { λ r. ⌜ r ≡ min a b ⌝ }
 {
     if a < b { a } else { b }
 }
 
-// How many ticks a task may have in a row.
+// How many ticks a task may have at once.
 fn at_once(p: Setup, used: u32, owed: u32, limit: u32) -> u32
     requires { ⌜ Room p used 1 ⌝ }
     ensures { λ r. ⌜ r ≡ atOnce p used owed limit ⌝ }
@@ -67,7 +68,7 @@ fn at_once(p: Setup, used: u32, owed: u32, limit: u32) -> u32
     least(most, p.slice - used)
 }
 
-// The next row of ticks: the cursor after the turn, the task, what it is owed, and how many of them it gets.
+// A leg: the cursor after the turn, the task, the ticks that it is owed, and how many of them it gets.
 pub struct Leg {
     pub cursor: Cursor,
     pub task: u8,
@@ -75,6 +76,7 @@ pub struct Leg {
     pub n: u32,
 }
 
+// The next leg, of at most limit ticks. Something is open.
 pub fn next_leg(p: Setup, c: Cursor, limit: u32, queue: &[u8; 32], owed: &[u32; 32]) -> Leg
     requires { ⌜ Ready p c (now queue) (now owed) ⌝ }
     ensures { λ r. ⌜ r ≡ legOf p c limit (now (queue .entry)) (now (owed .entry)) ⌝ }

@@ -1,5 +1,5 @@
--- Where the task stands that is served. In order: who is chosen; the scan for the one that goes first; heads, and one
--- more task. Assumes nothing.
+-- Where the task stands that is served. In order: who is chosen; of two tasks, the one that goes first; the scan for
+-- the one that goes first of many; heads; one more task. Assumes nothing.
 use Prim.Native.Nat.{ℕ, zero, suc, _+_, _-_, _≤_, _<_, zero-le}
 use native.Mathlib.Omega.{arith}
 use native.Mathlib.Numerals.{add-one}
@@ -35,7 +35,7 @@ pub chosen-robin : (p : Setup) (h n : ℕ) (q : List ℕ) → isPriority p ≡ f
 unfolding chosen
 chosen-robin p h n q e b l = ap (chosen p) (queueAt-robin p h n q e ∙ ring-head h n q b l) ∙ cond-false _ (at q h) e
 
--- ---- heads
+-- ---- of two tasks, the one that goes first
 
 -- the task a, with priority x, and another, with priority y
 module _ (prio : List ℕ) (a b : ℕ) {x y : ℕ} (ex : x ≡ at prio a) (ey : y ≡ at prio b) where
@@ -46,6 +46,8 @@ module _ (prio : List ℕ) (a b : ℕ) {x y : ℕ} (ex : x ≡ at prio a) (ey : 
   pub before-overtakes : (r : Bool) → x ≤ y → r ≡ cond (ltb x y) true (ltb b a) → before prio a b ≡ cond r b a
   unfolding before
   before-overtakes r h e = rw (e, ← ex, ← ey, le-ltb y x h) (tested (ltb x y) (λ f. rw f) (λ f. rw f))
+
+-- ---- the scan
 
 -- of the first k tasks, the one that goes first is that at the place
 pub record Scanned (prio : List ℕ) (n : ℕ) (q : List ℕ) (place task top k : ℕ) : Type 0 where
@@ -85,16 +87,7 @@ module _ {prio : List ℕ} {n : ℕ} {q : List ℕ} {place task top k : ℕ} (S 
       let z : drop k (take n q) ≡ [] = drop-of-length-le (take n q) {i = k} (omega (arith, length-take-le n q l)) in
       record { inside = S .inside; first = sym (S .ahead ∙ ap (best prio (at q place)) z) }
 
-before-same : (prio : List ℕ) (a : ℕ) → before prio a a ≡ a
-unfolding before
-before-same prio a =
-    tested (ltb (at prio a) (at prio a)) (λ e. rw e) (λ e. rw e (tested (ltb a a) (λ f. rw f) (λ f. rw f)))
-
-best-append : (prio : List ℕ) (b : ℕ) (xs : List ℕ) (y : ℕ)
-    → best prio b (xs ++ y ∷ []) ≡ before prio (best prio b xs) y
-unfolding best
-best-append prio b [] y = refl
-best-append prio b (x ∷ xs) y = best-append prio (before prio b x) xs y
+-- ---- heads
 
 module _ {p : Setup} {h n : ℕ} {q : List ℕ} {r : ℕ} (H : Heads p h n q r) where
   pub heads-inside : r ≤ n - 1
@@ -162,7 +155,20 @@ heads-set {p} {h} (suc n) {q} k H =
           };
     }
 
--- one more task: of it and the best of the others, the one that goes first
+-- ---- one more task
+
+before-same : (prio : List ℕ) (a : ℕ) → before prio a a ≡ a
+unfolding before
+before-same prio a =
+    tested (ltb (at prio a) (at prio a)) (λ e. rw e) (λ e. rw e (tested (ltb a a) (λ f. rw f) (λ f. rw f)))
+
+best-append : (prio : List ℕ) (b : ℕ) (xs : List ℕ) (y : ℕ)
+    → best prio b (xs ++ y ∷ []) ≡ before prio (best prio b xs) y
+unfolding best
+best-append prio b [] y = refl
+best-append prio b (x ∷ xs) y = best-append prio (before prio b x) xs y
+
+-- of it and the best of the others, the one that goes first
 pub best-more : {prio q : List ℕ} {h n r : ℕ} → Best prio n q h → n < length q → r ≤ n
     → before prio (at q h) (at q n) ≡ at q r → Best prio (n + 1) q r
 unfolding best

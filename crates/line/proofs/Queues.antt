@@ -15,7 +15,7 @@ use Rattle.lists.proofs.Places.{below-append, below-take, below-drop, without-p
 use Rattle.rule.specs.Setups.{isPriority}
 use Rattle.rule.specs.declared.Setup.{Setup}
 use Rattle.line.specs.Places.{ring, queueAt, takenOut}
-use Rattle.line.proofs.Rings.{ring-zero, ring-length, ring-times, ring-head, take-takenOut, ring-takenOut}
+use Rattle.line.proofs.Rings.{ring-zero, length-ring, times-ring, ring-head, take-takenOut, ring-takenOut}
 
 -- ---- the tasks of the queue
 
@@ -34,16 +34,16 @@ queueAt-either P p h n q f r =
     (λ e. subst P (sym (queueAt-priority p h n q e)) (f e))
     (λ e. subst P (sym (queueAt-robin p h n q e)) (r e))
 
-pub queueAt-times : (p : Setup) (k h n : ℕ) (q : List ℕ) → times k (queueAt p h n q) ≡ times k (take n q)
-queueAt-times p k h n q =
-    queueAt-either (λ (x : List ℕ). times k x ≡ times k (take n q)) p h n q (λ e. refl) (λ e. ring-times k h n q)
+pub times-queueAt : (p : Setup) (k h n : ℕ) (q : List ℕ) → times k (queueAt p h n q) ≡ times k (take n q)
+times-queueAt p k h n q =
+    queueAt-either (λ (x : List ℕ). times k x ≡ times k (take n q)) p h n q (λ e. refl) (λ e. times-ring k h n q)
 
-pub queueAt-length : (p : Setup) (h n : ℕ) (q : List ℕ) → n ≤ length q → length (queueAt p h n q) ≡ n
-queueAt-length p h n q l =
-    queueAt-either (λ (x : List ℕ). length x ≡ n) p h n q (λ e. length-take-le n q l) (λ e. ring-length h n q l)
+pub length-queueAt : (p : Setup) (h n : ℕ) (q : List ℕ) → n ≤ length q → length (queueAt p h n q) ≡ n
+length-queueAt p h n q l =
+    queueAt-either (λ (x : List ℕ). length x ≡ n) p h n q (λ e. length-take-le n q l) (λ e. length-ring h n q l)
 
-pub queueAt-below : (p : Setup) (m h n : ℕ) (q : List ℕ) → Below m q → Below m (queueAt p h n q)
-queueAt-below p m h n q b =
+pub below-queueAt : (p : Setup) (m h n : ℕ) (q : List ℕ) → Below m q → Below m (queueAt p h n q)
+below-queueAt p m h n q b =
     let t : Below m (take n q) = below-take m n q b in
     queueAt-either (Below m) p h n q (λ e. t)
     (λ e.
@@ -61,7 +61,7 @@ pub queueAt-takenOut : (p : Setup) (h n : ℕ) (q : List ℕ) (r : ℕ) → h < 
 queueAt-takenOut p h n q r b l once e =
     let l′ : length (take n q) ≡ n = length-take-le n q l in
     let k : at (take n q) h ≡ at q h = getD-take n q h 0 b in
-    let t : times (at q h) (take n q) ≡ 1 = sym (queueAt-times p (at q h) h n q) ∙ once in
+    let t : times (at q h) (take n q) ≡ 1 = sym (times-queueAt p (at q h) h n q) ∙ once in
     tested (isPriority p)
     (λ f.
     queueAt-priority p r (n - 1) (takenOut h q) f
@@ -72,7 +72,7 @@ queueAt-takenOut p h n q r b l once e =
     ∙ ap (without (at q h)) (sym (queueAt-priority p h n q f)))
     (λ f.
     let u : times (at q h) (at q h ∷ (drop (suc h) (take n q) ++ take h (take n q))) ≡ 1 =
-    sym (ap (times (at q h)) (ring-head h n q b l)) ∙ ring-times (at q h) h n q ∙ t in
+    sym (ap (times (at q h)) (ring-head h n q b l)) ∙ times-ring (at q h) h n q ∙ t in
     queueAt-robin p r (n - 1) (takenOut h q) f
     ∙ ap (λ (x : ℕ). ring x (n - 1) (takenOut h q)) (e f)
     ∙ ring-takenOut h n q b l
@@ -81,20 +81,21 @@ queueAt-takenOut p h n q r b l once e =
 
 -- ---- the queue from place 0 on, and a task that joins it
 
-module _ (p : Setup) (h n : ℕ) (q : List ℕ) {q′ : List ℕ} (l : n ≤ length q) (e : q′ ≡ queueAt p h n q ++ drop n q) where
-  pub straight-take : take n q′ ≡ queueAt p h n q
-  straight-take = ap (take n) e ∙ take-at (queueAt p h n q) (drop n q) n (queueAt-length p h n q l)
+module _ (p : Setup) (h n : ℕ) (q : List ℕ) {q′ : List ℕ} (l : n ≤ length q)
+    (e : q′ ≡ queueAt p h n q ++ drop n q) where
+  pub take-straight : take n q′ ≡ queueAt p h n q
+  take-straight = ap (take n) e ∙ take-at (queueAt p h n q) (drop n q) n (length-queueAt p h n q l)
 
-  pub straight-drop : drop n q′ ≡ drop n q
-  straight-drop = ap (drop n) e ∙ drop-at (queueAt p h n q) (drop n q) n (queueAt-length p h n q l)
+  pub drop-straight : drop n q′ ≡ drop n q
+  drop-straight = ap (drop n) e ∙ drop-at (queueAt p h n q) (drop n q) n (length-queueAt p h n q l)
 
-  pub straight-length : length q′ ≡ length q
-  straight-length =
+  pub length-straight : length q′ ≡ length q
+  length-straight =
       omega (
         arith,
         ap length e,
         length-append (queueAt p h n q) (drop n q),
-        queueAt-length p h n q l,
+        length-queueAt p h n q l,
         length-drop n q,
       )
 
@@ -107,8 +108,8 @@ module _ (p : Setup) (h n : ℕ) (q : List ℕ) {q′ : List ℕ} (l : n ≤ len
   queueAt-joined k r b z =
       let t : take (n + 1) (set q′ n k) ≡ queueAt p h n q ++ k ∷ [] =
       ap (λ (j : ℕ). take j (set q′ n k)) (add-one n)
-      ∙ take-suc-set q′ n k (omega (arith, straight-length))
-      ∙ ap (λ (x : List ℕ). x ++ k ∷ []) straight-take in
+      ∙ take-suc-set q′ n k (omega (arith, length-straight))
+      ∙ ap (λ (x : List ℕ). x ++ k ∷ []) take-straight in
       tested (isPriority p)
       (λ f. queueAt-priority p r (n + 1) (set q′ n k) f ∙ t)
       (λ f.

@@ -29,9 +29,9 @@ around h l = drop h l ++ take h l
 around-all : (h : ℕ) (l : List ℕ) → length l ≡ h → around h l ≡ l
 around-all h l e = rw (sym e) (ap (λ (x : List ℕ). x ++ take (length l) l) (drop-length l) ∙ take-length l)
 
-around-next : (h : ℕ) (l : List ℕ) → h < length l → headBack (around h l) ≡ around (suc h) l
+headBack-around : (h : ℕ) (l : List ℕ) → h < length l → headBack (around h l) ≡ around (suc h) l
 unfolding headBack
-around-next h l b =
+headBack-around h l b =
     ap (λ (x : List ℕ). headBack (x ++ take h l)) (drop-cons l h 0 b)
     ∙ append-assoc (drop (suc h) l) (take h l) (at l h ∷ [])
     ∙ ap (λ (x : List ℕ). drop (suc h) l ++ x) (sym (take-suc l h 0 b))
@@ -39,14 +39,14 @@ around-next h l b =
 pub ring-zero : (n : ℕ) (q : List ℕ) → ring 0 n q ≡ take n q
 ring-zero n q = append-nil (take n q)
 
-pub ring-length : (h n : ℕ) (q : List ℕ) → n ≤ length q → length (ring h n q) ≡ n
-ring-length h n q b =
+pub length-ring : (h n : ℕ) (q : List ℕ) → n ≤ length q → length (ring h n q) ≡ n
+length-ring h n q b =
     let l = take n q in
     let e : length (take h l ++ drop h l) ≡ length l = ap length (take-append-drop h l) in
     omega (arith, length-append (drop h l) (take h l), length-append (take h l) (drop h l), length-take-le n q b)
 
-pub ring-times : (k h n : ℕ) (q : List ℕ) → times k (ring h n q) ≡ times k (take n q)
-ring-times k h n q =
+pub times-ring : (k h n : ℕ) (q : List ℕ) → times k (ring h n q) ≡ times k (take n q)
+times-ring k h n q =
     let l = take n q in
     let e : times k (take h l ++ drop h l) ≡ times k l = ap (times k) (take-append-drop h l) in
     omega (arith, times-append k (drop h l) (take h l), times-append k (take h l) (drop h l))
@@ -56,11 +56,11 @@ pub ring-head : (h n : ℕ) (q : List ℕ) → h < n → n ≤ length q
 ring-head h n q b l = ap (λ (x : List ℕ). x ++ take h (take n q)) (slice-cons h n q 0 b l)
 
 -- a turn of the queue is a step of the ring's head
-pub ring-next : (h n : ℕ) (q : List ℕ) → h < n → n ≤ length q
+pub headBack-ring : (h n : ℕ) (q : List ℕ) → h < n → n ≤ length q
     → headBack (ring h n q) ≡ ring (cond (eqb (h + 1) n) 0 (h + 1)) n q
-ring-next h n q b l =
+headBack-ring h n q b l =
     let m : length (take n q) ≡ n = length-take-le n q l in
-    around-next h (take n q) (omega arith)
+    headBack-around h (take n q) (omega arith)
     ∙ tested (eqb (h + 1) n)
     (λ e.
     around-all (suc h) (take n q) (m ∙ sym (eqb-true (h + 1) n e) ∙ add-one h)
@@ -74,9 +74,9 @@ pub straight-zero : (n : ℕ) (q : List ℕ) → q ≡ ring 0 n q ++ drop n q
 straight-zero n q = sym (ap (λ (x : List ℕ). x ++ drop n q) (ring-zero n q) ∙ take-append-drop n q)
 
 -- by two copies
-pub straight-paste : (h n : ℕ) (q : List ℕ) → h ≤ n → n ≤ length q
+pub paste-straight : (h n : ℕ) (q : List ℕ) → h ≤ n → n ≤ length q
     → paste (paste q 0 (drop h q) (n - h)) (n - h) (drop 0 q) h ≡ ring h n q ++ drop n q
-straight-paste h n q b l =
+paste-straight h n q b l =
     let m = n - h in
     let part = paste q 0 (drop h q) m in
     let z : 0 + m ≡ m = omega arith in
@@ -105,8 +105,8 @@ clear-set n k q b z =
 
 -- ---- a task taken out
 
-pub takenOut-below : (m h : ℕ) (q : List ℕ) → Below m q → Below m (takenOut h q)
-takenOut-below m h q b =
+pub below-takenOut : (m h : ℕ) (q : List ℕ) → Below m q → Below m (takenOut h q)
+below-takenOut m h q b =
     below-append m (take h q) (drop (h + 1) q ++ 0 ∷ []) (below-take m h q b)
     (below-append m (drop (h + 1) q) (0 ∷ []) (below-drop m (h + 1) q b) zeros)
   where
@@ -114,8 +114,8 @@ takenOut-below m h q b =
     zeros zero = omega (arith, b 0)
     zeros (suc k) = omega (arith, b 0)
 
-pub takenOut-length : (h : ℕ) (q : List ℕ) → h < length q → length (takenOut h q) ≡ length q
-takenOut-length h q b =
+pub length-takenOut : (h : ℕ) (q : List ℕ) → h < length q → length (takenOut h q) ≡ length q
+length-takenOut h q b =
     omega (
       arith,
       length-append (take h q) (drop (h + 1) q ++ 0 ∷ []),

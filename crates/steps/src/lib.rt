@@ -1,5 +1,5 @@
-// A step of the clock on a run taken apart: idle ticks, or a row of ticks to one task. In order: what a row of ticks
-// gives, the cursor after its last, the step.
+// A step of the clock on a run taken apart: idle ticks, or a leg. In order: what a leg gives, the cursor after the last
+// ticks of a task, the step.
 use legs::Cursor;
 use legs::Leg;
 use rule::Setup;
@@ -10,8 +10,8 @@ ghost use Rattle.laws.specs.Sound.{Sound};
 ghost use Rattle.laws.specs.Drains.{lastClock};
 ghost use Rattle.line.specs.Places.{Tasks};
 ghost use Rattle.legs.specs.Parts.{parts, Kept};
-ghost use Rattle.legs.specs.Inner.{owedAfter, givenAfter};
-ghost use Rattle.steps.specs.Inner.{Finished, Stepped};
+ghost use Rattle.legs.specs.Legs.{owedAfter, givenAfter};
+ghost use Rattle.steps.specs.Steps.{Finished, Stepped};
 
 // The task gets its ticks.
 fn given_to(leg: Leg, owed: &mut [u32; 32], given: &mut [u32; 32])
@@ -60,7 +60,7 @@ fn finished(
     }
 }
 
-// The next row of ticks is given.
+// The next leg is given.
 fn give_leg(
     p: Setup,
     c: Cursor,

@@ -2,7 +2,7 @@
 use native.Mathlib.Omega.{arith}
 use mathlib.Core.Path.{ap}
 use borrow.Author.Needs.{needs}
-use Rattle.engine.specs.Inner.{straightTo}
+use Rattle.engine.specs.Joining.{straightTo}
 use Rattle.legs.specs.declared.Cursor.{Cursor}
 use Rattle.engine.proofs.Assembly.{together}
 use Rattle.engine.proofs.run_of.Statement.{statement}

@@ -8,7 +8,7 @@ use Rattle.lists.specs.Lists.{at, total}
 use Rattle.laws.specs.Sound.{Sound, Room}
 use Rattle.laws.specs.Drains.{lastClock}
 use Rattle.legs.specs.Parts.{parts}
-use Rattle.legs.specs.Inner.{legOf}
+use Rattle.legs.specs.Legs.{legOf}
 use Rattle.legs.proofs.Legs.{ready, leg-known, leg-owed, leg-sliced}
 use Rattle.engine.proofs.Waits.{Waits, waits-start, waits-owes, waits-time, waits-end, waits-step, waits-less}
 use Rattle.engine.proofs.soonest.Statement.{statement}

@@ -4,7 +4,7 @@ use mathlib.Core.Path.{sym, _∙_}
 use borrow.Author.Tests.{eq-eqb, ne-eqb}
 use borrow.Author.Needs.{needs}
 use Rattle.lists.proofs.Testing.{cond-true, cond-false}
-use Rattle.legs.specs.Inner.{atOnce}
+use Rattle.legs.specs.Legs.{atOnce}
 use Rattle.legs.proofs.at_once.Statement.{statement}
 use Rattle.legs.proofs.at_once.Tie as tie
 
@@ -19,7 +19,8 @@ returns-2 : tie.Need-returns-2
 unfolding atOnce
 returns-2 c =
     c .least2 .ensures
-    ∙ rw (c .before .before .before .before .least .ensures) (sym (cond-false _ _ (ne-eqb _ 1 (c .before .before .if1 .left))))
+    ∙ rw (c .before .before .before .before .least .ensures)
+    (sym (cond-false _ _ (ne-eqb _ 1 (c .before .before .if1 .left))))
 
 pub at-once-spec : {M : Type 1} → statement M
 at-once-spec = tie.close (tie.spec (λ c κs. search needs) returns sub-least (λ c κs. search needs) returns-2)

@@ -7,7 +7,7 @@ use Rattle.lists.proofs.Totals.{at-inside}
 use Rattle.legs.proofs.Turns.{turned-some}
 use Rattle.laws.proofs.Served.{overdue-room}
 use Rattle.legs.specs.Parts.{turnedTo}
-use Rattle.legs.specs.Inner.{legOf}
+use Rattle.legs.specs.Legs.{legOf}
 use Rattle.legs.proofs.Legs.{ready-owes}
 use Rattle.legs.proofs.next_leg.Statement.{statement}
 use Rattle.legs.proofs.next_leg.Tie as tie

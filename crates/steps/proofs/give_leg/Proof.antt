@@ -3,7 +3,7 @@ use native.Mathlib.Omega.{arith}
 use mathlib.Core.Path.{sym, _∙_}
 use Rattle.legs.proofs.Legs.{ready, kept-tasks, leg-known, leg-owed, leg-owes, leg-sliced, leg-time, leg-gives}
 use Rattle.legs.proofs.Legs.{leg-kept, leg-some}
-use Rattle.steps.proofs.Stepped.{finished-stepped, served-stepped}
+use Rattle.steps.proofs.Steps.{finished-stepped, served-stepped}
 use Rattle.steps.proofs.give_leg.Statement.{statement}
 use Rattle.steps.proofs.give_leg.Tie as tie
 

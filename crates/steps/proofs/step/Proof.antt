@@ -3,9 +3,9 @@ use Prim.Native.Nat.{_<_}
 use native.Mathlib.Omega.{arith}
 use mathlib.Core.Path.{_≡_, sym, _∙_}
 use borrow.Author.Needs.{needs}
-use Rattle.legs.specs.Inner.{legOf}
+use Rattle.legs.specs.Legs.{legOf}
 use Rattle.legs.proofs.Legs.{legOf-slice, ready, leg-known, leg-owed, leg-owes, leg-sliced, leg-time, leg-gives}
-use Rattle.steps.proofs.Stepped.{rested-stepped, served-stepped}
+use Rattle.steps.proofs.Steps.{rested-stepped, served-stepped}
 use Rattle.steps.proofs.step.Statement.{statement}
 use Rattle.steps.proofs.step.Tie as tie
 

@@ -5,7 +5,7 @@ use mathlib.Core.List.{List, _++_}
 use lib.ListN.{drop, take-append-drop}
 use borrow.Author.Tests.{eq-eqb, ne-eqb}
 use borrow.Author.Needs.{needs}
-use Rattle.engine.specs.Inner.{straightTo}
+use Rattle.engine.specs.Joining.{straightTo}
 use Rattle.line.proofs.Queues.{queueAt-priority, queueAt-robin}
 use Rattle.engine.proofs.opening.straightened.Statement.{statement}
 use Rattle.engine.proofs.opening.straightened.Tie as tie

@@ -1,4 +1,5 @@
--- What the functions ask and promise. Assumes nothing.
+-- The next leg: ticks one after another to one task. In order: what it asks; how many ticks; the leg, and the ticks
+-- owed and given after it. Assumes nothing.
 use Prim.Native.Nat.{ℕ, _+_, _-_, _<_, min}
 use mathlib.Core.Path.{_≡_}
 use mathlib.Core.Bool.{false, cond}
@@ -12,7 +13,7 @@ use Rattle.legs.specs.Parts.{turnedTo, Kept}
 use Rattle.legs.specs.declared.Cursor.{Cursor}
 use Rattle.legs.specs.declared.Leg.{Leg}
 
--- Something is open, and what the next row of ticks reads of the parts.
+-- Something is open, and what the next leg reads of the parts.
 pub record Ready (p : Setup) (c : Cursor) (q o : List ℕ) : Type 0 where
   pub kept : Kept p c q
   pub some : 0 < c .queued

@@ -12,7 +12,7 @@ use Rattle.rule.specs.Tick.{chosen, turn, ticks}
 use Rattle.rule.specs.declared.Setup.{Setup}
 use Rattle.line.specs.Places.{takenOut, Heads}
 use Rattle.legs.specs.Parts.{Kept}
-use Rattle.legs.specs.Inner.{atOnce}
+use Rattle.legs.specs.Legs.{atOnce}
 use Rattle.legs.specs.declared.Cursor.{Cursor}
 
 -- After the last n ticks that the task at the head was owed: it has left the queue, and is done.
@@ -25,9 +25,9 @@ pub record Finished (p : Setup) (c : Cursor) (task n : ℕ) (q d : List ℕ) (r 
   pub left : q′ ≡ takenOut (c .head) q
   pub done : d′ ≡ set d task (c .clock + n)
 
--- How far a step goes that may go as far as limit: with nothing open so far, and else as far as the task that is served
--- after the turn may have ticks at once. "No call walks through the ticks one by one. Under round robin a step per slice
--- is enough in the base."
+-- "No call walks through the ticks one by one. Under round robin a step per slice is enough in the base." How many
+-- ticks of a limit a step takes: with nothing open all, and else those that the task served after the turn may have at
+-- once.
 unfoldable pub stride : State → ℕ → ℕ
 stride s limit =
     cond (eqb (length (s .queue)) 0) limit

@@ -20,16 +20,16 @@ use Rattle.laws.proofs.Served.{times-turn, length-turn, overdue-room}
 use Rattle.laws.proofs.Ticks.{ticks-clock}
 use Rattle.laws.proofs.Jump.{ticks-idle}
 use Rattle.line.specs.Places.{queueAt, takenOut}
-use Rattle.line.proofs.Rings.{takenOut-length, drop-takenOut}
-use Rattle.line.proofs.Queues.{queueAt-length, queueAt-takenOut}
+use Rattle.line.proofs.Rings.{length-takenOut, drop-takenOut}
+use Rattle.line.proofs.Queues.{length-queueAt, queueAt-takenOut}
 use Rattle.line.proofs.Heads.{heads-inside, heads-serves}
 use Rattle.legs.specs.Parts.{parts, Kept, servedTo, restedTo}
-use Rattle.legs.specs.Inner.{atOnce, legOf, owedAfter, givenAfter}
+use Rattle.legs.specs.Legs.{atOnce, legOf, owedAfter, givenAfter}
 use Rattle.legs.specs.declared.Cursor.{Cursor}
 use Rattle.legs.specs.declared.Leg.{Leg}
-use Rattle.legs.proofs.Legs.{atOnce-asked, atOnce-some, front-times, leg-task, leg-owed, leg-once, leg-queued, leg-kept}
+use Rattle.legs.proofs.Legs.{atOnce-asked, atOnce-some, times-front, leg-task, leg-owed, leg-once, leg-queued, leg-kept}
 use Rattle.legs.proofs.Legs.{leg-owes, leg-gets, leg-turn, leg-chosen, leg-ticks, parts-some, served-kept, served-ticks}
-use Rattle.steps.specs.Inner.{stride, Finished, Stepped}
+use Rattle.steps.specs.Steps.{stride, Finished, Stepped}
 
 -- ---- how far a step goes
 
@@ -92,7 +92,7 @@ module _ {p : Setup} {c : Cursor} {q o g d : List ℕ} (K : Kept p c q) (S : Sou
     where
       empty : queueAt p (c .head) (c .queued) q ≡ []
       empty = length-zero (queueAt p (c .head) (c .queued) q)
-          (queueAt-length p (c .head) (c .queued) q (omega (arith, K .tidy .fits, K .tidy .whole)) ∙ z)
+          (length-queueAt p (c .head) (c .queued) q (omega (arith, K .tidy .fits, K .tidy .whole)) ∙ z)
 
       resting : parts p (restedTo c limit) q o g d ≡ rest (parts p c q o g d) limit
       resting = unfold rest in refl
@@ -142,7 +142,7 @@ module _ {p : Setup} {c : Cursor} {q o g d : List ℕ} (K : Kept p c q) (S : Sou
           let once : times (at q h) (queueAt p h n q) ≡ 1 =
           subst (λ (x : ℕ). times x (queueAt p h n q) ≡ 1) task
           (ap (λ (x : ℕ). times (l .task) (queueAt p h x q)) (leg-queued K S some pos L)
-          ∙ front-times K S h (l .task)
+          ∙ times-front K S h (l .task)
           ∙ omega (arith, leg-owes K S some pos L, leg-gets K S some pos L)) in
           ap (λ (x : List ℕ). queueAt p (r .head) (r .queued) x) (F .left)
           ∙ ap (λ (x : ℕ). queueAt p (r .head) x (takenOut h q)) (F .queued)
@@ -162,7 +162,7 @@ module _ {p : Setup} {c : Cursor} {q o g d : List ℕ} (K : Kept p c q) (S : Sou
       finished-kept : Kept p r q′
       finished-kept =
           let w : length q′ ≡ 32 =
-          ap length (F .left) ∙ takenOut-length h q (omega (arith, head-below, room)) ∙ K .tidy .whole in
+          ap length (F .left) ∙ length-takenOut h q (omega (arith, head-below, room)) ∙ K .tidy .whole in
           let m : r .queued ≤ 32 = omega (arith, F .queued, kept .tidy .fits) in
           let z : 32 - n + 1 ≡ 32 - r .queued = omega (arith, F .queued, head-below, kept .tidy .fits) in
           record {
