@@ -27,9 +27,11 @@ overdue-robin p used e =
     (λ f. absurd (false≢true (sym (cond-true false (eqb used (p .slice)) f) ∙ e)))
     (λ f. f)
 
+sliceDue-overdue : (p : Setup) (c : Cursor) (limit : ℕ) → sliceDue p c limit ≡ true → overdue p (c .used) ≡ true
+sliceDue-overdue p c limit e = and-true (overdue p (c .used)) (leb (p .slice) limit) e .0
+
 pub sliceDue-robin : (p : Setup) (c : Cursor) (limit : ℕ) → sliceDue p c limit ≡ true → isPriority p ≡ false
-sliceDue-robin p c limit e =
-    overdue-robin p (c .used) (and-true (overdue p (c .used)) (leb (p .slice) limit) e .0)
+sliceDue-robin p c limit e = overdue-robin p (c .used) (sliceDue-overdue p c limit e)
 
 pub sliceDue-whole : (p : Setup) (c : Cursor) (limit : ℕ) → sliceDue p c limit ≡ true → p .slice ≤ limit
 sliceDue-whole p c limit e = leb-true (p .slice) limit (and-true (overdue p (c .used)) (leb (p .slice) limit) e .1)
@@ -38,7 +40,7 @@ sliceDue-whole p c limit e = leb-true (p .slice) limit (and-true (overdue p (c .
 
 pub turned-used : (p : Setup) (c : Cursor) (limit : ℕ) → sliceDue p c limit ≡ true → turnedTo p c .used ≡ 0
 unfolding turnedTo
-turned-used p c limit e = cond-true 0 (c .used) (and-true (overdue p (c .used)) (leb (p .slice) limit) e .0)
+turned-used p c limit e = cond-true 0 (c .used) (sliceDue-overdue p c limit e)
 
 next-below : (h n : ℕ) (b : Bool) → h < n → cond b (cond (eqb (h + 1) n) 0 (h + 1)) h < n
 next-below h n false l = l

@@ -1,6 +1,7 @@
 -- After the turn the head stands in the queue, so its task is owed ticks.
 use Prim.Native.Nat.{_<_}
 use native.Mathlib.Omega.{arith}
+use mathlib.Core.Path.{ap}
 use borrow.Author.Needs.{needs}
 use Rattle.lists.specs.Lists.{at}
 use Rattle.lists.proofs.Totals.{at-inside}
@@ -8,6 +9,7 @@ use Rattle.legs.proofs.Turns.{turned-some}
 use Rattle.laws.proofs.Served.{overdue-room}
 use Rattle.legs.specs.Parts.{turnedTo}
 use Rattle.legs.specs.Legs.{legOf}
+use Rattle.legs.specs.declared.Cursor.{Cursor}
 use Rattle.legs.proofs.Legs.{ready-owes}
 use Rattle.legs.proofs.next_leg.Statement.{statement}
 use Rattle.legs.proofs.next_leg.Tie as tie
@@ -38,9 +40,10 @@ element-copy-out-o c = known (c .before)
 
 at-once-requires : tie.Need-at-once-requires
 unfolding turnedTo
-at-once-requires c κs =
+at-once-requires c κs = λ e.
     let s = c .before .before .before in
-    rw (c .before .before .turned .ensures) (overdue-room (s .args .p) (s .args .c .used) (s .pre .sliced))
+    let used = ap (λ (x : Cursor). x .used) (c .before .before .turned .ensures) in
+    omega (arith, used, overdue-room (s .args .p) (s .args .c .used) (s .pre .sliced) e)
 
 returns : tie.Need-returns
 unfolding legOf
