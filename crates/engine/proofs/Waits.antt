@@ -19,7 +19,7 @@ use Rattle.legs.specs.Parts.{parts, Kept, servedTo}
 use Rattle.legs.specs.Legs.{legOf}
 use Rattle.legs.specs.declared.Cursor.{Cursor}
 use Rattle.legs.specs.declared.Leg.{Leg}
-use Rattle.legs.proofs.Legs.{leg-owed, leg-clock, leg-owes, leg-gets, leg-sliced, leg-turn, leg-chosen, leg-some}
+use Rattle.legs.proofs.Legs.{Leads, leg-owed, leg-clock, leg-owes, leg-gets, leg-sliced, leg-turn, leg-chosen, leg-some}
 use Rattle.legs.proofs.Legs.{parts-some, served-kept, served-ticks}
 
 -- what is done next from here on is done next from start on
@@ -44,25 +44,24 @@ module _ {start : State} {p : Setup} {c : Cursor} {q o d : List ℕ} (W : Waits 
   abbrev ready : State
   ready = parts p (l .cursor) q o (W .given) d
 
-  some : 0 < l .n
-  some = leg-gets (W .kept) (W .sound) (W .some) pos L
+  pub waits-leads : Leads p c limit q o (W .given) d l
+  waits-leads = record { kept = W .kept; sound = W .sound; some = W .some; pos = pos; leg = L }
 
-  pub waits-owes : l .n ≤ at o (l .task)
-  waits-owes = leg-owes (W .kept) (W .sound) (W .some) pos L
+  some : 0 < l .n
+  some = leg-gets waits-leads
+
+  owes : l .n ≤ at o (l .task)
+  owes = leg-owes waits-leads
 
   pub waits-time : l .cursor .clock + l .n ≤ lastClock
-  waits-time =
-      omega (arith, leg-clock (W .kept) (W .sound) (W .some) pos L, waits-owes, at-le-total o (l .task), W .soon)
+  waits-time = omega (arith, leg-clock waits-leads, owes, at-le-total o (l .task), W .soon)
 
   pub waits-end : l .owed ≡ l .n → DoneNext start (l .task) (l .cursor .clock + l .n)
   waits-end e =
       W .passes (l .task) (l .cursor .clock + l .n)
-      (next-jumped now ready (W .sound)
-      (parts-some (W .kept) (W .sound) (W .some) pos L)
-      (leg-turn (W .kept) (W .sound) (W .some) pos L) (l .task) (l .n)
-      (leg-chosen (W .kept) (W .sound) (W .some) pos L)
-      some waits-owes (leg-sliced (W .kept) (W .sound) (W .some) pos L)
-      (sym (leg-owed (W .kept) (W .sound) (W .some) pos L) ∙ e))
+      (next-jumped now ready (W .sound) (parts-some waits-leads) (leg-turn waits-leads) (l .task) (l .n)
+      (leg-chosen waits-leads) some owes (leg-sliced waits-leads)
+      (sym (leg-owed waits-leads) ∙ e))
 
   module _ {r : Cursor} {o′ : List ℕ} (more : l .n < at o (l .task)) (er : r ≡ servedTo p (l .cursor) (l .n))
       (eo : o′ ≡ set o (l .task) (at o (l .task) - l .n)) where
@@ -71,7 +70,7 @@ module _ {start : State} {p : Setup} {c : Cursor} {q o d : List ℕ} (W : Waits 
 
     later : parts p r q o′ given′ d ≡ ticks (l .n) now
     unfolding given′
-    later = rw (er, eo) (served-ticks (W .kept) (W .sound) (W .some) pos L more)
+    later = rw (er, eo) (served-ticks waits-leads more)
 
     left : total o′ + l .n ≡ total o
     left =
@@ -84,7 +83,7 @@ module _ {start : State} {p : Setup} {c : Cursor} {q o d : List ℕ} (W : Waits 
     pub waits-step : Waits start p r q o′ d
     waits-step =
         record {
-          kept = rw er (served-kept (W .kept) (W .sound) (W .some) pos L);
+          kept = rw er (served-kept waits-leads);
           some = rw er served-some;
           soon = omega (arith, served-clock, left, W .soon);
           given = given′;
@@ -92,18 +91,18 @@ module _ {start : State} {p : Setup} {c : Cursor} {q o d : List ℕ} (W : Waits 
           passes = λ task time x.
               W .passes task time
               (next-passed now ready (W .sound)
-              (parts-some (W .kept) (W .sound) (W .some) pos L)
-              (leg-turn (W .kept) (W .sound) (W .some) pos L) (l .task) (l .n)
-              (leg-chosen (W .kept) (W .sound) (W .some) pos L)
-              some waits-owes (leg-sliced (W .kept) (W .sound) (W .some) pos L) more task time
+              (parts-some waits-leads)
+              (leg-turn waits-leads) (l .task) (l .n)
+              (leg-chosen waits-leads)
+              some owes (leg-sliced waits-leads) more task time
               (subst (λ (y : State). DoneNext y task time) later x));
         }
       where
         served-some : 0 < servedTo p (l .cursor) (l .n) .queued
-        served-some = unfold servedTo in leg-some (W .kept) (W .sound) (W .some) pos L
+        served-some = unfold servedTo in leg-some waits-leads
 
         served-clock : r .clock ≡ c .clock + l .n
         served-clock =
             unfold servedTo in
             ap (λ (x : Cursor). x .clock) er
-            ∙ ap (λ (x : ℕ). x + l .n) (leg-clock (W .kept) (W .sound) (W .some) pos L)
+            ∙ ap (λ (x : ℕ). x + l .n) (leg-clock waits-leads)

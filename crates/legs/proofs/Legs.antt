@@ -109,92 +109,102 @@ module _ {p : Setup} {c : Cursor} {q o g d : List ℕ} (K : Kept p c q) (S : Sou
   kept-tasks =
       places-tasks (c .queued) q o (omega (arith, K .tidy .fits, K .tidy .whole)) owing (S .owed32) (K .tidy .clear)
 
-  -- ---- what the leg has
+-- ---- what the leg has
 
-  module _ (some : 0 < c .queued) {limit : ℕ} (pos : 0 < limit) {l : Leg} (L : l ≡ legOf p c limit q o) where
-    turned : l .cursor ≡ turnedTo p c
-    turned = unfold legOf in ap (λ (x : Leg). x .cursor) L
+-- l is the next leg of the parts of a sound state in which something is open
+pub record Leads (p : Setup) (c : Cursor) (limit : ℕ) (q o g d : List ℕ) (l : Leg) : Type 0 where
+  pub kept : Kept p c q
+  pub sound : Sound (parts p c q o g d)
+  pub some : 0 < c .queued
+  pub pos : 0 < limit
+  pub leg : l ≡ legOf p c limit q o
 
-    pub leg-task : l .task ≡ at q (l .cursor .head)
-    unfolding legOf
-    leg-task = rw L
+module _ {p : Setup} {c : Cursor} {limit : ℕ} {q o g d : List ℕ} {l : Leg} (L : Leads p c limit q o g d l) where
+  turned : l .cursor ≡ turnedTo p c
+  turned = unfold legOf in ap (λ (x : Leg). x .cursor) (L .leg)
 
-    pub leg-owed : l .owed ≡ at o (l .task)
-    unfolding legOf
-    leg-owed = rw L
+  pub leg-task : l .task ≡ at q (l .cursor .head)
+  unfolding legOf
+  leg-task = rw (L .leg)
 
-    pub leg-once : l .n ≡ atOnce p (l .cursor .used) (l .owed) limit
-    unfolding legOf
-    leg-once = rw L
+  pub leg-owed : l .owed ≡ at o (l .task)
+  unfolding legOf
+  leg-owed = rw (L .leg)
 
-    pub leg-queued : l .cursor .queued ≡ c .queued
-    leg-queued = unfold turnedTo in ap (λ (x : Cursor). x .queued) turned
+  pub leg-once : l .n ≡ atOnce p (l .cursor .used) (l .owed) limit
+  unfolding legOf
+  leg-once = rw (L .leg)
 
-    pub leg-clock : l .cursor .clock ≡ c .clock
-    leg-clock = unfold turnedTo in ap (λ (x : Cursor). x .clock) turned
+  pub leg-queued : l .cursor .queued ≡ c .queued
+  leg-queued = unfold turnedTo in ap (λ (x : Cursor). x .queued) turned
 
-    pub leg-kept : Kept p (l .cursor) q
-    leg-kept = rw turned (turned-kept K some)
+  pub leg-clock : l .cursor .clock ≡ c .clock
+  leg-clock = unfold turnedTo in ap (λ (x : Cursor). x .clock) turned
 
-    pub leg-some : 0 < l .cursor .queued
-    leg-some = omega (arith, leg-queued)
+  pub leg-kept : Kept p (l .cursor) q
+  leg-kept = rw turned (turned-kept (L .kept) (L .some))
 
-    open-task : 0 < at o (l .task)
-    open-task =
-        rw (leg-task, turned)
-        (ready-owes (ready some) (turnedTo p c .head) (turned-some K some))
+  pub leg-some : 0 < l .cursor .queued
+  leg-some = omega (arith, leg-queued, L .some)
 
-    pub leg-known : l .task < 32
-    leg-known = omega (arith, at-inside o (l .task) open-task, S .owed32)
+  open-task : 0 < at o (l .task)
+  open-task =
+      rw (leg-task, turned)
+      (ready-owes (ready (L .kept) (L .sound) (L .some)) (turnedTo p c .head) (turned-some (L .kept) (L .some)))
 
-    room : Room p (l .cursor .used) 1
-    room = unfold turnedTo in rw turned (overdue-room p (c .used) (S .sliced))
+  pub leg-known : l .task < 32
+  leg-known = omega (arith, at-inside o (l .task) open-task, L .sound .owed32)
 
-    pub leg-asked : l .n ≤ limit
-    leg-asked = rw leg-once (atOnce-asked p (l .cursor .used) (l .owed) limit)
+  room : Room p (l .cursor .used) 1
+  room = unfold turnedTo in rw turned (overdue-room p (c .used) (L .sound .sliced))
 
-    pub leg-owes : l .n ≤ at o (l .task)
-    leg-owes = rw (leg-once, ← leg-owed) (atOnce-owes p (l .cursor .used) (l .owed) limit)
+  pub leg-asked : l .n ≤ limit
+  leg-asked = rw leg-once (atOnce-asked p (l .cursor .used) (l .owed) limit)
 
-    pub leg-sliced : Room p (l .cursor .used) (l .n)
-    leg-sliced = rw leg-once (atOnce-sliced p (l .cursor .used) (l .owed) limit room)
+  pub leg-owes : l .n ≤ at o (l .task)
+  leg-owes = rw (leg-once, ← leg-owed) (atOnce-owes p (l .cursor .used) (l .owed) limit)
 
-    pub leg-gets : 0 < l .n
-    leg-gets =
-        rw leg-once (atOnce-some p (l .cursor .used) (l .owed) limit (omega (arith, open-task, leg-owed)) pos room)
+  pub leg-sliced : Room p (l .cursor .used) (l .n)
+  leg-sliced = rw leg-once (atOnce-sliced p (l .cursor .used) (l .owed) limit room)
 
-    pub leg-time : c .clock + limit ≤ lastClock → l .cursor .clock + l .n < 2 ^ 32
-    leg-time t = omega (arith, leg-asked, leg-clock)
+  pub leg-gets : 0 < l .n
+  leg-gets =
+      rw leg-once (atOnce-some p (l .cursor .used) (l .owed) limit (omega (arith, open-task, leg-owed)) (L .pos) room)
 
-    pub leg-gives : c .clock + limit ≤ lastClock → at g (l .task) + l .n < 2 ^ 32
-    leg-gives t = omega (arith, S .spent, at-le-total g (l .task), leg-asked)
+  pub leg-time : c .clock + limit ≤ lastClock → l .cursor .clock + l .n < 2 ^ 32
+  leg-time t = omega (arith, leg-asked, leg-clock)
 
-    -- ---- the state after it
+  pub leg-gives : c .clock + limit ≤ lastClock → at g (l .task) + l .n < 2 ^ 32
+  leg-gives t = omega (arith, L .sound .spent, at-le-total g (l .task), leg-asked)
 
-    pub leg-turn : parts p (l .cursor) q o g d ≡ turn (parts p c q o g d)
-    leg-turn = ap (λ (x : Cursor). parts p x q o g d) turned ∙ parts-turn K some
+  -- ---- the state after it
 
-    pub leg-chosen : l .task ≡ chosen p (queueAt p (l .cursor .head) (l .cursor .queued) q)
-    leg-chosen = leg-task ∙ leg-kept .serves leg-some
+  pub leg-turn : parts p (l .cursor) q o g d ≡ turn (parts p c q o g d)
+  leg-turn = ap (λ (x : Cursor). parts p x q o g d) turned ∙ parts-turn (L .kept) (L .some)
 
-    pub parts-some : 0 < length (queueAt p (c .head) (c .queued) q)
-    parts-some = rw (length-queueAt p (c .head) (c .queued) q (omega (arith, K .tidy .fits, K .tidy .whole))) some
+  pub leg-chosen : l .task ≡ chosen p (queueAt p (l .cursor .head) (l .cursor .queued) q)
+  leg-chosen = leg-task ∙ leg-kept .serves leg-some
 
-    pub leg-ticks : give (parts p (l .cursor) q o g d) (l .task) (l .n) ≡ ticks (l .n) (parts p c q o g d)
-    leg-ticks =
-        sym (ticks-jump (parts p c q o g d) (parts p (l .cursor) q o g d) S parts-some leg-turn (l .task) (l .n)
-        leg-chosen leg-gets leg-owes leg-sliced)
+  pub parts-some : 0 < length (queueAt p (c .head) (c .queued) q)
+  parts-some =
+      let room : c .queued ≤ length q = omega (arith, L .kept .tidy .fits, L .kept .tidy .whole) in
+      rw (length-queueAt p (c .head) (c .queued) q room) (L .some)
 
-    -- ---- before the task is done
+  pub leg-ticks : give (parts p (l .cursor) q o g d) (l .task) (l .n) ≡ ticks (l .n) (parts p c q o g d)
+  leg-ticks =
+      sym (ticks-jump (parts p c q o g d) (parts p (l .cursor) q o g d) (L .sound) parts-some leg-turn (l .task) (l .n)
+      leg-chosen leg-gets leg-owes leg-sliced)
 
-    pub served-kept : Kept p (servedTo p (l .cursor) (l .n)) q
-    unfolding servedTo
-    served-kept =
-        let k = leg-kept in
-        record { tidy = k .tidy; inside = k .inside; serves = k .serves }
+  -- ---- before the task is done
 
-    pub served-ticks : l .n < at o (l .task)
-        → parts p (servedTo p (l .cursor) (l .n)) q (owedAfter l o) (givenAfter l g) d
-        ≡ ticks (l .n) (parts p c q o g d)
-    unfolding give servedTo
-    served-ticks h = simp (ne-eqb (at o (l .task)) (l .n) (omega arith)) at leg-ticks
+  pub served-kept : Kept p (servedTo p (l .cursor) (l .n)) q
+  unfolding servedTo
+  served-kept =
+      let k = leg-kept in
+      record { tidy = k .tidy; inside = k .inside; serves = k .serves }
+
+  pub served-ticks : l .n < at o (l .task)
+      → parts p (servedTo p (l .cursor) (l .n)) q (owedAfter l o) (givenAfter l g) d
+      ≡ ticks (l .n) (parts p c q o g d)
+  unfolding give servedTo
+  served-ticks h = simp (ne-eqb (at o (l .task)) (l .n) (omega arith)) at leg-ticks

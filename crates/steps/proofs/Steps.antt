@@ -24,11 +24,12 @@ use Rattle.line.proofs.Rings.{length-takenOut, drop-takenOut}
 use Rattle.line.proofs.Queues.{length-queueAt, queueAt-takenOut}
 use Rattle.line.proofs.Heads.{heads-inside, heads-serves}
 use Rattle.legs.specs.Parts.{parts, Kept, servedTo, restedTo}
-use Rattle.legs.specs.Legs.{atOnce, legOf, owedAfter, givenAfter}
+use Rattle.legs.specs.Legs.{atOnce, owedAfter, givenAfter}
 use Rattle.legs.specs.declared.Cursor.{Cursor}
 use Rattle.legs.specs.declared.Leg.{Leg}
-use Rattle.legs.proofs.Legs.{atOnce-asked, atOnce-some, times-front, leg-task, leg-owed, leg-once, leg-queued, leg-kept}
-use Rattle.legs.proofs.Legs.{leg-owes, leg-gets, leg-turn, leg-chosen, leg-ticks, parts-some, served-kept, served-ticks}
+use Rattle.legs.proofs.Legs.{atOnce-asked, atOnce-some, times-front, Leads, leg-task, leg-owed, leg-once, leg-queued}
+use Rattle.legs.proofs.Legs.{leg-kept, leg-owes, leg-gets, leg-turn, leg-chosen, leg-ticks, parts-some, served-kept}
+use Rattle.legs.proofs.Legs.{served-ticks}
 use Rattle.steps.specs.Steps.{stride, Finished, Stepped}
 
 -- ---- how far a step goes
@@ -97,91 +98,91 @@ module _ {p : Setup} {c : Cursor} {q o g d : List ℕ} (K : Kept p c q) (S : Sou
       resting : parts p (restedTo c limit) q o g d ≡ rest (parts p c q o g d) limit
       resting = unfold rest in refl
 
-  -- ---- a leg
+-- ---- a leg
 
-  module _ (some : 0 < c .queued) {limit : ℕ} (pos : 0 < limit) {l : Leg} (L : l ≡ legOf p c limit q o) where
-    kept : Kept p (l .cursor) q
-    kept = leg-kept K S some pos L
+module _ {p : Setup} {c : Cursor} {limit : ℕ} {q o g d : List ℕ} {l : Leg} (L : Leads p c limit q o g d l) where
+  kept : Kept p (l .cursor) q
+  kept = leg-kept L
 
-    stride-parts : stride (parts p c q o g d) limit ≡ l .n
-    stride-parts =
-        stride-leg (parts p c q o g d) limit (parts-some K S some pos L)
-        ∙ ap (λ (x : State). atOnce p (x .used) (at o (chosen p (x .queue))) limit) (sym (leg-turn K S some pos L))
-        ∙ ap (λ (k : ℕ). atOnce p (l .cursor .used) (at o k) limit) (sym (leg-chosen K S some pos L))
-        ∙ ap (λ (k : ℕ). atOnce p (l .cursor .used) k limit) (sym (leg-owed K S some pos L))
-        ∙ sym (leg-once K S some pos L)
+  stride-parts : stride (parts p c q o g d) limit ≡ l .n
+  stride-parts =
+      stride-leg (parts p c q o g d) limit (parts-some L)
+      ∙ ap (λ (x : State). atOnce p (x .used) (at o (chosen p (x .queue))) limit) (sym (leg-turn L))
+      ∙ ap (λ (k : ℕ). atOnce p (l .cursor .used) (at o k) limit) (sym (leg-chosen L))
+      ∙ ap (λ (k : ℕ). atOnce p (l .cursor .used) k limit) (sym (leg-owed L))
+      ∙ sym (leg-once L)
 
-    stepped : {r : Cursor} {q′ : List ℕ} {after : State} → Kept p r q′ → after ≡ ticks (l .n) (parts p c q o g d)
-        → Stepped p r q′ limit (parts p c q o g d) after
-    stepped k e =
-        record { kept = k; shown = e ∙ ap (λ (n : ℕ). ticks n (parts p c q o g d)) (sym stride-parts) }
+  stepped : {r : Cursor} {q′ : List ℕ} {after : State} → Kept p r q′ → after ≡ ticks (l .n) (parts p c q o g d)
+      → Stepped p r q′ limit (parts p c q o g d) after
+  stepped k e =
+      record { kept = k; shown = e ∙ ap (λ (n : ℕ). ticks n (parts p c q o g d)) (sym stride-parts) }
 
-    pub served-stepped : {r : Cursor} {o′ g′ : List ℕ} → l .n < at o (l .task) → r ≡ servedTo p (l .cursor) (l .n)
-        → o′ ≡ owedAfter l o → g′ ≡ givenAfter l g → Stepped p r q limit (parts p c q o g d) (parts p r q o′ g′ d)
-    served-stepped h er eo eg =
-        rw (er, eo, eg) (stepped (served-kept K S some pos L) (served-ticks K S some pos L h))
+  pub served-stepped : {r : Cursor} {o′ g′ : List ℕ} → l .n < at o (l .task) → r ≡ servedTo p (l .cursor) (l .n)
+      → o′ ≡ owedAfter l o → g′ ≡ givenAfter l g → Stepped p r q limit (parts p c q o g d) (parts p r q o′ g′ d)
+  served-stepped h er eo eg =
+      rw (er, eo, eg) (stepped (served-kept L) (served-ticks L h))
 
-    -- ---- with the last that it is owed
+  -- ---- with the last that it is owed
 
-    module _ {r : Cursor} {q′ d′ : List ℕ} (F : Finished p (l .cursor) (l .task) (l .n) q d r q′ d′) where
-      abbrev h : ℕ
-      h = l .cursor .head
+  module _ {r : Cursor} {q′ d′ : List ℕ} (F : Finished p (l .cursor) (l .task) (l .n) q d r q′ d′) where
+    abbrev h : ℕ
+    h = l .cursor .head
 
-      abbrev n : ℕ
-      n = l .cursor .queued
+    abbrev n : ℕ
+    n = l .cursor .queued
 
-      head-below : h < n
-      head-below = omega (arith, kept .inside, leg-queued K S some pos L)
+    head-below : h < n
+    head-below = omega (arith, kept .inside, leg-queued L)
 
-      room : n ≤ length q
-      room = omega (arith, kept .tidy .fits, K .tidy .whole)
+    room : n ≤ length q
+    room = omega (arith, kept .tidy .fits, L .kept .tidy .whole)
 
-      finished-queue : queueAt p (r .head) (r .queued) q′ ≡ without (l .task) (queueAt p h n q)
-      finished-queue =
-          let task = leg-task K S some pos L in
-          let once : times (at q h) (queueAt p h n q) ≡ 1 =
-          subst (λ (x : ℕ). times x (queueAt p h n q) ≡ 1) task
-          (ap (λ (x : ℕ). times (l .task) (queueAt p h x q)) (leg-queued K S some pos L)
-          ∙ times-front K S h (l .task)
-          ∙ omega (arith, leg-owes K S some pos L, leg-gets K S some pos L)) in
-          ap (λ (x : List ℕ). queueAt p (r .head) (r .queued) x) (F .left)
-          ∙ ap (λ (x : ℕ). queueAt p (r .head) x (takenOut h q)) (F .queued)
-          ∙ queueAt-takenOut p h n q (r .head) head-below room once
-          (λ e. F .head .robin e ∙ ap (λ (x : ℕ). cond (ltb h x) h 0) (F .queued))
-          ∙ ap (λ (x : ℕ). without x (queueAt p h n q)) (sym task)
+    finished-queue : queueAt p (r .head) (r .queued) q′ ≡ without (l .task) (queueAt p h n q)
+    finished-queue =
+        let task = leg-task L in
+        let once : times (at q h) (queueAt p h n q) ≡ 1 =
+        subst (λ (x : ℕ). times x (queueAt p h n q) ≡ 1) task
+        (ap (λ (x : ℕ). times (l .task) (queueAt p h x q)) (leg-queued L)
+        ∙ times-front (L .kept) (L .sound) h (l .task)
+        ∙ omega (arith, leg-owes L, leg-gets L)) in
+        ap (λ (x : List ℕ). queueAt p (r .head) (r .queued) x) (F .left)
+        ∙ ap (λ (x : ℕ). queueAt p (r .head) x (takenOut h q)) (F .queued)
+        ∙ queueAt-takenOut p h n q (r .head) head-below room once
+        (λ e. F .head .robin e ∙ ap (λ (x : ℕ). cond (ltb h x) h 0) (F .queued))
+        ∙ ap (λ (x : ℕ). without x (queueAt p h n q)) (sym task)
 
-      finished-ticks : at o (l .task) ≡ l .n
-          → parts p r q′ (owedAfter l o) (givenAfter l g) d′ ≡ ticks (l .n) (parts p c q o g d)
-      finished-ticks e = gave ∙ leg-ticks K S some pos L
-        where
-          gave : parts p r q′ (owedAfter l o) (givenAfter l g) d′ ≡ give (parts p (l .cursor) q o g d) (l .task) (l .n)
-          gave =
-              unfold give in
-              simp (F .clock, F .idle, F .used, finished-queue, F .done, eq-eqb (at o (l .task)) (l .n) e)
+    finished-ticks : at o (l .task) ≡ l .n
+        → parts p r q′ (owedAfter l o) (givenAfter l g) d′ ≡ ticks (l .n) (parts p c q o g d)
+    finished-ticks e = gave ∙ leg-ticks L
+      where
+        gave : parts p r q′ (owedAfter l o) (givenAfter l g) d′ ≡ give (parts p (l .cursor) q o g d) (l .task) (l .n)
+        gave =
+            unfold give in
+            simp (F .clock, F .idle, F .used, finished-queue, F .done, eq-eqb (at o (l .task)) (l .n) e)
 
-      finished-kept : Kept p r q′
-      finished-kept =
-          let w : length q′ ≡ 32 =
-          ap length (F .left) ∙ length-takenOut h q (omega (arith, head-below, room)) ∙ K .tidy .whole in
-          let m : r .queued ≤ 32 = omega (arith, F .queued, kept .tidy .fits) in
-          let z : 32 - n + 1 ≡ 32 - r .queued = omega (arith, F .queued, head-below, kept .tidy .fits) in
-          record {
-            tidy =
-                record {
-                  fits = m;
-                  whole = w;
-                  clear =
-                      ap (λ (x : ℕ). drop x q′) (F .queued)
-                      ∙ ap (drop (n - 1)) (F .left)
-                      ∙ drop-takenOut h n q head-below room
-                      ∙ ap (λ (x : List ℕ). x ++ 0 ∷ []) (kept .tidy .clear)
-                      ∙ replicate-append-replicate (32 - n) 1 0
-                      ∙ ap (λ (x : ℕ). replicate x 0) z;
-                };
-            inside = heads-inside (F .head);
-            serves = λ y. heads-serves (F .head) y (omega arith);
-          }
+    finished-kept : Kept p r q′
+    finished-kept =
+        let w : length q′ ≡ 32 =
+        ap length (F .left) ∙ length-takenOut h q (omega (arith, head-below, room)) ∙ L .kept .tidy .whole in
+        let m : r .queued ≤ 32 = omega (arith, F .queued, kept .tidy .fits) in
+        let z : 32 - n + 1 ≡ 32 - r .queued = omega (arith, F .queued, head-below, kept .tidy .fits) in
+        record {
+          tidy =
+              record {
+                fits = m;
+                whole = w;
+                clear =
+                    ap (λ (x : ℕ). drop x q′) (F .queued)
+                    ∙ ap (drop (n - 1)) (F .left)
+                    ∙ drop-takenOut h n q head-below room
+                    ∙ ap (λ (x : List ℕ). x ++ 0 ∷ []) (kept .tidy .clear)
+                    ∙ replicate-append-replicate (32 - n) 1 0
+                    ∙ ap (λ (x : ℕ). replicate x 0) z;
+              };
+          inside = heads-inside (F .head);
+          serves = λ y. heads-serves (F .head) y (omega arith);
+        }
 
-      pub finished-stepped : {o′ g′ : List ℕ} → at o (l .task) ≡ l .n → o′ ≡ owedAfter l o → g′ ≡ givenAfter l g
-          → Stepped p r q′ limit (parts p c q o g d) (parts p r q′ o′ g′ d′)
-      finished-stepped e eo eg = rw (eo, eg) (stepped finished-kept (finished-ticks e))
+    pub finished-stepped : {o′ g′ : List ℕ} → at o (l .task) ≡ l .n → o′ ≡ owedAfter l o → g′ ≡ givenAfter l g
+        → Stepped p r q′ limit (parts p c q o g d) (parts p r q′ o′ g′ d′)
+    finished-stepped e eo eg = rw (eo, eg) (stepped finished-kept (finished-ticks e))

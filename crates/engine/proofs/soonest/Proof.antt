@@ -9,8 +9,8 @@ use Rattle.laws.specs.Sound.{Sound, Room}
 use Rattle.laws.specs.Drains.{lastClock}
 use Rattle.legs.specs.Parts.{parts}
 use Rattle.legs.specs.Legs.{legOf}
-use Rattle.legs.proofs.Legs.{ready, leg-known, leg-owed, leg-sliced}
-use Rattle.engine.proofs.Waits.{Waits, waits-start, waits-owes, waits-time, waits-end, waits-step, waits-less}
+use Rattle.legs.proofs.Legs.{ready, Leads, leg-known, leg-owed, leg-owes, leg-sliced}
+use Rattle.engine.proofs.Waits.{Waits, waits-start, waits-leads, waits-time, waits-end, waits-step, waits-less}
 use Rattle.engine.proofs.soonest.Statement.{statement}
 use Rattle.engine.proofs.soonest.Tie as tie
 
@@ -35,24 +35,30 @@ module _ (c : tie.After-next-leg Inv-loop μ-loop) where
   abbrev at-loop : tie.At-loop Inv-loop μ-loop
   at-loop = c .before .before
 
-  abbrev leads : let a = at-loop .before .before .args in
+  abbrev leg : let a = at-loop .before .before .args in
       c .next-leg .result ≡ legOf (a .p) (at-loop .loop .c) lastClock (a .queue .now) (at-loop .loop .left)
-  leads = c .next-leg .ensures
+  leg = c .next-leg .ensures
+
+  leads : let s = at-loop .before .before in
+      let O = s .pre .1 .0 in
+      Leads (s .args .p) (at-loop .loop .c) lastClock (s .args .queue .now) (at-loop .loop .left) (waits at-loop .given)
+      (O .done) (c .next-leg .result)
+  leads = waits-leads (waits at-loop) (omega arith) leg
 
   known : c .next-leg .result .task < 32
-  known = let W = waits at-loop in leg-known (W .kept) (W .sound) (W .some) (omega arith) leads
+  known = leg-known leads
 
   time : c .next-leg .result .cursor .clock + c .next-leg .result .n ≤ lastClock
-  time = waits-time (waits at-loop) (omega arith) leads
+  time = waits-time (waits at-loop) (omega arith) leg
 
   sliced : Room (at-loop .before .before .args .p) (c .next-leg .result .cursor .used) (c .next-leg .result .n)
-  sliced = let W = waits at-loop in leg-sliced (W .kept) (W .sound) (W .some) (omega arith) leads
+  sliced = leg-sliced leads
 
   owed : c .next-leg .result .owed ≡ at (at-loop .loop .left) (c .next-leg .result .task)
-  owed = let W = waits at-loop in leg-owed (W .kept) (W .sound) (W .some) (omega arith) leads
+  owed = leg-owed leads
 
   owes : c .next-leg .result .n ≤ c .next-leg .result .owed
-  owes = rw owed (waits-owes (waits at-loop) (omega arith) leads)
+  owes = rw owed (leg-owes leads)
 
   more : (c .next-leg .result .owed ≡ c .next-leg .result .n → ⊥)
       → c .next-leg .result .n < at (at-loop .loop .left) (c .next-leg .result .task)
@@ -79,7 +85,7 @@ add-t14 c = omega (arith, time (c .before .before .before .before .before .befor
 returns : tie.Need-returns Inv-loop μ-loop
 returns c = λ g d S.
     let l = c .before .before .before .before .before .before in
-    waits-end (l .before .before .loop .inv g d S) (omega arith) (leads l) (c .before .before .before .if1 .taken)
+    waits-end (l .before .before .loop .inv g d S) (omega arith) (leg l) (c .before .before .before .if1 .taken)
 
 cast-i : tie.Need-cast-i Inv-loop μ-loop
 cast-i c = omega (arith, known (c .before .before .before .before))
@@ -102,13 +108,13 @@ loop-less : tie.Need-loop-less Inv-loop μ-loop
 loop-less c =
     let l = c .before .before .before .before .before .before in
     let m = more l (c .before .before .before .if1 .left) in
-    waits-less (waits (l .before .before)) (omega arith) (leads l) m (c .served .ensures) (stored l)
+    waits-less (waits (l .before .before)) (omega arith) (leg l) m (c .served .ensures) (stored l)
 
 loop-again : tie.Need-loop-again Inv-loop μ-loop
 loop-again c = λ g d S.
     let l = c .before .before .before .before .before .before in
     let m = more l (c .before .before .before .if1 .left) in
-    waits-step (l .before .before .loop .inv g d S) (omega arith) (leads l) m (c .served .ensures) (stored l)
+    waits-step (l .before .before .loop .inv g d S) (omega arith) (leg l) m (c .served .ensures) (stored l)
 
 pub soonest-spec : {M : Type 1} → statement M
 soonest-spec =

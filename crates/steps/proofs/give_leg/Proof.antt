@@ -1,7 +1,7 @@
 -- A leg that finishes its task, or one that does not: each is a law of Stepped.
 use native.Mathlib.Omega.{arith}
 use mathlib.Core.Path.{sym, _∙_}
-use Rattle.legs.proofs.Legs.{ready, kept-tasks, leg-known, leg-owed, leg-owes, leg-sliced, leg-time, leg-gives}
+use Rattle.legs.proofs.Legs.{ready, kept-tasks, Leads, leg-known, leg-owed, leg-owes, leg-sliced, leg-time, leg-gives}
 use Rattle.legs.proofs.Legs.{leg-kept, leg-some}
 use Rattle.steps.proofs.Steps.{finished-stepped, served-stepped}
 use Rattle.steps.proofs.give_leg.Statement.{statement}
@@ -11,66 +11,55 @@ use Rattle.steps.proofs.give_leg.Tie as tie
 abbrev start : tie.After-next-leg → tie.Start
 start c = c .before .before .before
 
+leads : (c : tie.After-next-leg)
+    → let a = start c .args in
+    Leads (a .p) (a .c) (a .limit) (a .queue .now) (a .owed .now) (a .given .now) (a .done .now) (c .next-leg .result)
+leads c =
+    let P = start c .pre in
+    record {
+      kept = P .0;
+      sound = P .1 .0;
+      some = P .1 .1 .1 .1;
+      pos = P .1 .1 .0;
+      leg = c .next-leg .ensures;
+    }
+
 next-leg-requires : tie.Need-next-leg-requires
 next-leg-requires c κs = let P = c .before .before .pre in ready (P .0) (P .1 .0) (P .1 .1 .1 .1)
 
 given-to-requires : tie.Need-given-to-requires
 given-to-requires c κs =
     let l = c .before .before in
-    let P = start l .pre in
-    let L = l .next-leg .ensures in (
-      leg-known (P .0) (P .1 .0) (P .1 .1 .1 .1) (P .1 .1 .0) L,
-      (
-        leg-owes (P .0) (P .1 .0) (P .1 .1 .1 .1) (P .1 .1 .0) L,
-        leg-gives (P .0) (P .1 .0) (P .1 .1 .1 .1) (P .1 .1 .0) L (P .1 .1 .1 .0),
-      ),
-    )
+    (leg-known (leads l), (leg-owes (leads l), leg-gives (leads l) (start l .pre .1 .1 .1 .0)))
 
 finished-requires : tie.Need-finished-requires
 finished-requires c κs =
     let l = c .before .before .before .before .before .before .before .before in
-    let P = start l .pre in
-    let L = l .next-leg .ensures in (
-      leg-time (P .0) (P .1 .0) (P .1 .1 .1 .1) (P .1 .1 .0) L (P .1 .1 .1 .0),
-      (
-        leg-kept (P .0) (P .1 .0) (P .1 .1 .1 .1) (P .1 .1 .0) L,
-        (
-          leg-some (P .0) (P .1 .0) (P .1 .1 .1 .1) (P .1 .1 .0) L,
-          (kept-tasks (P .0) (P .1 .0), leg-known (P .0) (P .1 .0) (P .1 .1 .1 .1) (P .1 .1 .0) L),
-        ),
-      ),
+    let L = leads l in (
+      leg-time L (start l .pre .1 .1 .1 .0),
+      (leg-kept L, (leg-some L, (kept-tasks (L .kept) (L .sound), leg-known L))),
     )
 
 returns : tie.Need-returns
 returns c =
     let l = c .before .before .before .before .before .before .before .before .before in
-    let P = start l .pre in
-    let L = l .next-leg .ensures in
     let w = c .before .before .before .before .before .before .given-to .ensures in
-    finished-stepped (P .0) (P .1 .0) (P .1 .1 .1 .1) (P .1 .1 .0) L (c .finished .ensures)
-    (sym (leg-owed (P .0) (P .1 .0) (P .1 .1 .1 .1) (P .1 .1 .0) L) ∙ c .before .before .before .if1 .taken)
+    finished-stepped (leads l) (c .finished .ensures)
+    (sym (leg-owed (leads l)) ∙ c .before .before .before .if1 .taken)
     (w .0)
     (w .1)
 
 served-requires : tie.Need-served-requires
 served-requires c κs =
     let l = c .before .before .before .before .before .before in
-    let P = start l .pre in
-    let L = l .next-leg .ensures in (
-      leg-time (P .0) (P .1 .0) (P .1 .1 .1 .1) (P .1 .1 .0) L (P .1 .1 .1 .0),
-      leg-sliced (P .0) (P .1 .0) (P .1 .1 .1 .1) (P .1 .1 .0) L,
-    )
+    (leg-time (leads l) (start l .pre .1 .1 .1 .0), leg-sliced (leads l))
 
 returns-2 : tie.Need-returns-2
 returns-2 c =
     let l = c .before .before .before .before .before .before .before in
-    let P = start l .pre in
-    let L = l .next-leg .ensures in
     let w = c .before .before .before .before .given-to .ensures in
-    let owed = leg-owed (P .0) (P .1 .0) (P .1 .1 .1 .1) (P .1 .1 .0) L in
-    let owes = leg-owes (P .0) (P .1 .0) (P .1 .1 .1 .1) (P .1 .1 .0) L in
-    served-stepped (P .0) (P .1 .0) (P .1 .1 .1 .1) (P .1 .1 .0) L
-    (omega (arith, owed, owes, c .before .if1 .left)) (c .served .ensures) (w .0) (w .1)
+    served-stepped (leads l) (omega (arith, leg-owed (leads l), leg-owes (leads l), c .before .if1 .left))
+    (c .served .ensures) (w .0) (w .1)
 
 pub give-leg-spec : {M : Type 1} → statement M
 give-leg-spec =

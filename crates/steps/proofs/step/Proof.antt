@@ -1,28 +1,31 @@
 -- Idle ticks, a whole slice to a task that is owed more, or the next leg.
-use Prim.Native.Nat.{_<_}
 use native.Mathlib.Omega.{arith}
-use mathlib.Core.Path.{_≡_, sym, _∙_}
+use mathlib.Core.Path.{sym, _∙_}
 use borrow.Author.Needs.{needs}
-use Rattle.legs.specs.Legs.{legOf}
-use Rattle.legs.proofs.Legs.{legOf-slice, ready, leg-known, leg-owed, leg-owes, leg-sliced, leg-time, leg-gives}
+use Rattle.legs.proofs.Legs.{legOf-slice, ready, Leads, leg-known, leg-owed, leg-owes, leg-sliced, leg-time, leg-gives}
 use Rattle.steps.proofs.Steps.{rested-stepped, served-stepped}
 use Rattle.steps.proofs.step.Statement.{statement}
 use Rattle.steps.proofs.step.Tie as tie
 
--- the start, that something is open, and that the leg of a whole slice is the leg that the limit leads to
+-- the start, and that the leg of a whole slice is the leg that the limit leads to
 module _ (c : tie.After-next-leg) where
   abbrev start : tie.Start
   start = c .before .before .before .before .before .before .before .before .before
 
-  some : 0 < start .args .c .queued
-  some = omega (arith, c .before .before .before .before .before .before .before .if1 .left)
-
-  leads : let a = start .args in c .next-leg .result ≡ legOf (a .p) (a .c) (a .limit) (a .queue .now) (a .owed .now)
+  leads : let a = start .args in
+      Leads (a .p) (a .c) (a .limit) (a .queue .now) (a .owed .now) (a .given .now) (a .done .now) (c .next-leg .result)
   leads =
       let a = start .args in
-      c .next-leg .ensures
-      ∙ legOf-slice (a .p) (a .c) (a .limit) (a .queue .now) (a .owed .now)
-      (sym (c .before .before .before .before .slice-due .ensures) ∙ c .before .before .before .if3 .taken)
+      record {
+        kept = start .pre .0;
+        sound = start .pre .1 .0;
+        some = omega (arith, c .before .before .before .before .before .before .before .if1 .left);
+        pos = start .pre .1 .1 .0;
+        leg =
+            c .next-leg .ensures
+            ∙ legOf-slice (a .p) (a .c) (a .limit) (a .queue .now) (a .owed .now)
+            (sym (c .before .before .before .before .slice-due .ensures) ∙ c .before .before .before .if3 .taken);
+      }
 
 returns : tie.Need-returns
 returns c =
@@ -47,30 +50,19 @@ next-leg-requires c κs =
 given-to-requires : tie.Need-given-to-requires
 given-to-requires c κs =
     let l = c .before .before .before .before in
-    let P = start l .pre in (
-      leg-known (P .0) (P .1 .0) (some l) (P .1 .1 .0) (leads l),
-      (
-        leg-owes (P .0) (P .1 .0) (some l) (P .1 .1 .0) (leads l),
-        leg-gives (P .0) (P .1 .0) (some l) (P .1 .1 .0) (leads l) (P .1 .1 .1),
-      ),
-    )
+    (leg-known (leads l), (leg-owes (leads l), leg-gives (leads l) (start l .pre .1 .1 .1)))
 
 served-requires : tie.Need-served-requires
 served-requires c κs =
     let l = c .before .before .before .before .before in
-    let P = start l .pre in (
-      leg-time (P .0) (P .1 .0) (some l) (P .1 .1 .0) (leads l) (P .1 .1 .1),
-      leg-sliced (P .0) (P .1 .0) (some l) (P .1 .1 .0) (leads l),
-    )
+    (leg-time (leads l) (start l .pre .1 .1 .1), leg-sliced (leads l))
 
 returns-3 : tie.Need-returns-3
 returns-3 c =
     let l = c .before .before .before .before .before .before in
-    let P = start l .pre in
     let w = c .before .given-to .ensures in
-    let owed = leg-owed (P .0) (P .1 .0) (some l) (P .1 .1 .0) (leads l) in
-    served-stepped (P .0) (P .1 .0) (some l) (P .1 .1 .0) (leads l)
-    (omega (arith, owed, c .before .before .before .before .if4 .taken)) (c .served .ensures) (w .0) (w .1)
+    served-stepped (leads l) (omega (arith, leg-owed (leads l), c .before .before .before .before .if4 .taken))
+    (c .served .ensures) (w .0) (w .1)
 
 give-leg-requires-2 : tie.Need-give-leg-requires-2
 give-leg-requires-2 c κs =
