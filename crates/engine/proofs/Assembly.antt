@@ -13,13 +13,13 @@ use Rattle.rule.specs.declared.Setup.{Setup}
 use Rattle.rule.specs.declared.Run.{Run}
 use Rattle.laws.specs.Sound.{Sound}
 use Rattle.line.specs.Places.{queueAt, Tasks, Heads}
-use Rattle.legs.specs.Parts.{parts, Kept}
+use Rattle.legs.specs.Parts.{withQueue, parts, Kept}
 use Rattle.legs.specs.declared.Cursor.{Cursor}
-use Rattle.engine.specs.Inner.{straightTo}
+use Rattle.engine.specs.Joining.{straightTo}
 use Rattle.engine.specs.Promises.{Apart}
-use Rattle.line.proofs.Queues.{queueAt-priority, queueAt-zero, straight-take}
+use Rattle.line.proofs.Queues.{queueAt-priority, queueAt-zero, take-straight}
 use Rattle.line.proofs.Heads.{heads-inside, heads-serves}
-use Rattle.engine.proofs.Joining.{with-queue, straight-tidy}
+use Rattle.engine.proofs.Joining.{straight-tidy}
 use Rattle.legs.proofs.Legs.{places-tasks}
 
 module _ (r : Run) (T : Tidy r) where
@@ -37,12 +37,11 @@ module _ (r : Run) (T : Tidy r) where
         kept =
             record {
               tidy = T;
-              inside = heads-inside (r .setup) 0 (r .queued) (r .queue) head H;
-              serves = λ p.
-                  heads-serves (r .setup) 0 (r .queued) (r .queue) head H p (omega (arith, T .fits, T .whole));
+              inside = heads-inside H;
+              serves = λ y. heads-serves H y (omega (arith, T .fits, T .whole));
             };
         queued = refl;
-        shown = ap (λ (x : List ℕ). with-queue (r .setup) cursor x (r .owed) (r .given) (r .done)) queue;
+        shown = ap (λ (x : List ℕ). withQueue (r .setup) cursor x (r .owed) (r .given) (r .done)) queue;
       }
     where
       cursor : Cursor
@@ -61,13 +60,13 @@ pub apart-sound : (run : Run) (c : Cursor) → Sound (view run) → Apart run c
 apart-sound run c h a = subst Sound (sym (a .shown)) h
 
 pub apart-clock : (run : Run) (c : Cursor) → Apart run c → c .clock ≡ run .clock
-apart-clock run c a = ap (λ (s : State). s .clock) (a .shown)
+apart-clock run c a = ap (λ (x : State). x .clock) (a .shown)
 
-pub together : (s : Setup) (c : Cursor) (q q′ o g d : List ℕ) (r : Cursor) → Kept s c q → r ≡ straightTo s c
-    → q′ ≡ queueAt s (c .head) (c .queued) q ++ drop (c .queued) q
+pub together : {p : Setup} {c : Cursor} {q q′ o g d : List ℕ} {r : Cursor} → Kept p c q → r ≡ straightTo p c
+    → q′ ≡ queueAt p (c .head) (c .queued) q ++ drop (c .queued) q
     → Shows
     (record {
-      setup = s;
+      setup = p;
       clock = r .clock;
       idle = r .idle;
       used = r .used;
@@ -77,14 +76,13 @@ pub together : (s : Setup) (c : Cursor) (q q′ o g d : List ℕ) (r : Cursor) �
       given = g;
       done = d;
     })
-    (parts s c q o g d)
+    (parts p c q o g d)
 unfolding straightTo
-together s c q q′ o g d r K er e =
+together {p} {c} {q} {o = o} {g = g} {d = d} K er e =
     rw er
     record {
-      tidy =
-          straight-tidy s c q K q′ e;
+      tidy = straight-tidy K e;
       shown =
-          ap (λ (x : List ℕ). with-queue s c x o g d)
-          (straight-take s (c .head) (c .queued) q q′ (omega (arith, K .tidy .fits, K .tidy .whole)) e);
+          ap (λ (x : List ℕ). withQueue p c x o g d)
+          (take-straight p (c .head) (c .queued) q (omega (arith, K .tidy .fits, K .tidy .whole)) e);
     }

@@ -1,5 +1,4 @@
--- A task that joins the queue. In order: the parts with another queue; the queue from place 0 on; a task that joins
--- it. Assumes nothing.
+-- A task that joins the queue. In order: the queue from place 0 on; a task that joins it. Assumes nothing.
 use Prim.Native.Nat.{ℕ, _+_, _-_, _≤_, _<_, zero-le}
 use native.Mathlib.Omega.{arith}
 use mathlib.Core.Path.{_≡_, sym, ap, _∙_, subst}
@@ -11,43 +10,27 @@ use Rattle.lists.specs.Lists.{at}
 use Rattle.lists.proofs.Testing.{tested, cond-same}
 use Rattle.lists.proofs.Places.{below-append, below-drop, below-set}
 use Rattle.rule.specs.Setups.{isPriority}
-use Rattle.rule.specs.State.{State}
 use Rattle.rule.specs.Tick.{chosen}
 use Rattle.rule.specs.Calls.{opened}
 use Rattle.rule.specs.View.{Clear}
 use Rattle.rule.specs.declared.Setup.{Setup}
 use Rattle.line.specs.Places.{queueAt, Tasks, Heads}
-use Rattle.legs.specs.Parts.{Kept}
+use Rattle.legs.specs.Parts.{withQueue, Kept}
 use Rattle.legs.specs.declared.Cursor.{Cursor}
-use Rattle.engine.specs.Inner.{straightTo, Opens}
+use Rattle.engine.specs.Joining.{straightTo, Opens}
 use Rattle.line.proofs.Rings.{clear-set}
 use Rattle.line.proofs.Heads.{chosen-robin, heads-inside, heads-serves, serves-heads, heads-set}
-use Rattle.line.proofs.Queues.{straight-drop, straight-length, straight-priority}
-use Rattle.line.proofs.Queues.{queueAt-below, queueAt-joined}
-
--- ---- the parts with another queue
-
-abbrev pub with-queue : Setup → Cursor → List ℕ → List ℕ → List ℕ → List ℕ → State
-with-queue s c x o g d =
-    record {
-      setup = s;
-      clock = c .clock;
-      idle = c .idle;
-      used = c .used;
-      queue = x;
-      owed = o;
-      given = g;
-      done = d;
-    }
+use Rattle.line.proofs.Queues.{drop-straight, length-straight, straight-priority}
+use Rattle.line.proofs.Queues.{below-queueAt, queueAt-joined}
 
 -- ---- the queue from place 0 on
 
-pub straight-queued : (s : Setup) (c r : Cursor) → r ≡ straightTo s c → r .queued ≡ c .queued
+pub straight-queued : (p : Setup) (c : Cursor) {r : Cursor} → r ≡ straightTo p c → r .queued ≡ c .queued
 unfolding straightTo
-straight-queued s c r e = ap (λ (x : Cursor). x .queued) e
+straight-queued p c e = ap (λ (x : Cursor). x .queued) e
 
-module _ (s : Setup) (c : Cursor) (q : List ℕ) (K : Kept s c q) (q′ : List ℕ)
-    (e : q′ ≡ queueAt s (c .head) (c .queued) q ++ drop (c .queued) q) where
+module _ {p : Setup} {c : Cursor} {q : List ℕ} (K : Kept p c q) {q′ : List ℕ}
+    (e : q′ ≡ queueAt p (c .head) (c .queued) q ++ drop (c .queued) q) where
   room : c .queued ≤ length q
   room = omega (arith, K .tidy .fits, K .tidy .whole)
 
@@ -55,33 +38,33 @@ module _ (s : Setup) (c : Cursor) (q : List ℕ) (K : Kept s c q) (q′ : List �
   straight-tidy =
       record {
         fits = K .tidy .fits;
-        whole = straight-length s (c .head) (c .queued) q q′ room e ∙ K .tidy .whole;
-        clear = straight-drop s (c .head) (c .queued) q q′ room e ∙ K .tidy .clear;
+        whole = length-straight p (c .head) (c .queued) q room e ∙ K .tidy .whole;
+        clear = drop-straight p (c .head) (c .queued) q room e ∙ K .tidy .clear;
       }
 
-  pub straight-tasks : (task : ℕ) → c .queued < 32 → task < 32 → Tasks q → Tasks (set q′ (c .queued) task)
-  straight-tasks task l b t =
+  pub straight-tasks : {task : ℕ} → c .queued < 32 → task < 32 → Tasks q → Tasks (set q′ (c .queued) task)
+  straight-tasks {task} l b t =
       below-set 32 (c .queued) task q′ (omega (arith, straight-tidy .whole)) b
       (rw e
-      (below-append 32 (queueAt s (c .head) (c .queued) q) (drop (c .queued) q)
-      (queueAt-below s 32 (c .head) (c .queued) q t)
+      (below-append 32 (queueAt p (c .head) (c .queued) q) (drop (c .queued) q)
+      (below-queueAt p 32 (c .head) (c .queued) q t)
       (below-drop 32 (c .queued) q t)))
 
   straight-serves : 0 < c .queued
-      → at q′ (straightTo s c .head) ≡ chosen s (queueAt s (straightTo s c .head) (c .queued) q′)
+      → at q′ (straightTo p c .head) ≡ chosen p (queueAt p (straightTo p c .head) (c .queued) q′)
   unfolding straightTo
-  straight-serves p =
-      tested (isPriority s)
-      (λ f. rw (f, straight-priority s (c .head) (c .queued) q q′ room e f) (K .serves p))
-      (λ f. rw f (sym (chosen-robin s 0 (c .queued) q′ f p (omega (arith, straight-tidy .whole, K .tidy .fits)))))
+  straight-serves y =
+      tested (isPriority p)
+      (λ f. rw (f, straight-priority p (c .head) (c .queued) q room e f) (K .serves y))
+      (λ f. rw f (sym (chosen-robin p 0 (c .queued) q′ f y (omega (arith, straight-tidy .whole, K .tidy .fits)))))
 
-  pub straight-heads : (r : Cursor) (task : ℕ) → r ≡ straightTo s c
-      → Heads s (r .head) (r .queued) (set q′ (r .queued) task) (r .head)
+  pub straight-heads : {r : Cursor} (task : ℕ) → r ≡ straightTo p c
+      → Heads p (r .head) (r .queued) (set q′ (r .queued) task) (r .head)
   unfolding straightTo
-  straight-heads r task er =
+  straight-heads task er =
       rw er
-      (heads-set s (straightTo s c .head) (c .queued) q′ task
-      (serves-heads s (straightTo s c .head) (c .queued) q′ (inside (isPriority s))
+      (heads-set (c .queued) task
+      (serves-heads (c .queued) (inside (isPriority p))
       (omega (arith, straight-tidy .whole, K .tidy .fits))
       straight-serves))
     where
@@ -91,18 +74,18 @@ module _ (s : Setup) (c : Cursor) (q : List ℕ) (K : Kept s c q) (q′ : List �
 
   -- ---- a task joins it
 
-  pub joined-opens : (r : Cursor) (task amount : ℕ) (o : List ℕ) (head : ℕ) → r ≡ straightTo s c → c .queued < 32
-      → Heads s (r .head) (r .queued + 1) (set q′ (r .queued) task) head
-      → Opens s c task amount q o
+  pub joined-opens : {r : Cursor} {task amount : ℕ} {o : List ℕ} {head : ℕ} → r ≡ straightTo p c → c .queued < 32
+      → Heads p (r .head) (r .queued + 1) (set q′ (r .queued) task) head
+      → Opens p c task amount q o
       (record { clock = c .clock; idle = c .idle; used = c .used; queued = r .queued + 1; head = head })
       (set q′ (r .queued) task) (set o task amount)
   unfolding straightTo
-  joined-opens r task amount o head er b = subst Joins (sym er) joins
+  joined-opens {task = task} {amount = amount} {o = o} {head = head} er b = subst Joins (sym er) joins
     where
       Joins : Cursor → Type 0
       Joins r =
-          Heads s (r .head) (r .queued + 1) (set q′ (r .queued) task) head
-          → Opens s c task amount q o
+          Heads p (r .head) (r .queued + 1) (set q′ (r .queued) task) head
+          → Opens p c task amount q o
           (record { clock = c .clock; idle = c .idle; used = c .used; queued = r .queued + 1; head = head })
           (set q′ (r .queued) task) (set o task amount)
 
@@ -113,20 +96,18 @@ module _ (s : Setup) (c : Cursor) (q : List ℕ) (K : Kept s c q) (q′ : List �
       tidy =
           record { fits = omega arith; whole = whole; clear = clear-set (c .queued) task q′ b (straight-tidy .clear) }
 
-      joins : Joins (straightTo s c)
+      joins : Joins (straightTo p c)
       joins H =
           record {
             kept =
                 record {
                   tidy = tidy;
-                  inside = heads-inside s (straightTo s c .head) (c .queued + 1) (set q′ (c .queued) task) head H;
-                  serves = λ p.
-                      heads-serves s (straightTo s c .head) (c .queued + 1) (set q′ (c .queued) task) head H p
-                      (omega (arith, whole));
+                  inside = heads-inside H;
+                  serves = λ y. heads-serves H y (omega (arith, whole));
                 };
             shown = λ g d.
                 unfold opened in
-                ap (λ (x : List ℕ). with-queue s c x (set o task amount) g d)
-                (queueAt-joined s (c .head) (c .queued) q q′ room e task head (omega (arith, K .tidy .whole))
+                ap (λ (x : List ℕ). withQueue p c x (set o task amount) g d)
+                (queueAt-joined p (c .head) (c .queued) q room e task head (omega (arith, K .tidy .whole))
                 (λ f. H .robin f ∙ rw f (cond-same (ltb 0 (c .queued + 1)) 0)));
           }

@@ -16,10 +16,10 @@ use Rattle.laws.proofs.Made.{request-sound, queue-room}
 use Rattle.requests.proofs.Early.{early, early-between, refusal-now, refusal-open, refusal-none}
 use Rattle.line.specs.Places.{queueAt}
 use Rattle.legs.specs.Parts.{parts, Kept}
-use Rattle.engine.specs.Inner.{Opens}
+use Rattle.engine.specs.Joining.{Opens}
 use Rattle.engine.specs.Promises.{Reached, afterAsk, Asks}
 use Rattle.legs.specs.declared.Cursor.{Cursor}
-use Rattle.line.proofs.Queues.{queueAt-length}
+use Rattle.line.proofs.Queues.{length-queueAt}
 
 -- ---- what the request leaves
 
@@ -42,23 +42,23 @@ module _ (s : State) (t k a : ℕ) where
 
 -- ---- the promise
 
-pub asks-early : (s : Setup) (c : Cursor) (q : List ℕ) (before : State) (t k a n : ℕ) → Kept s c q → Sound before
+pub asks-early : {p : Setup} {c : Cursor} {q : List ℕ} {before : State} {t k a n : ℕ} → Kept p c q → Sound before
     → n ≡ early before t k a → (n ≡ 0 → ⊥)
-    → Asks s t k a (record { refusal = n; cursor = c }) q before before
-asks-early s c q before t k a n K S e h =
+    → Asks p t k a (record { refusal = n; cursor = c }) q before before
+asks-early {before = before} {t} {k} {a} K S e h =
     let h′ : early before t k a ≡ 0 → ⊥ = λ z. h (e ∙ z) in
     record {
       answer = e ∙ sym (refusal-now before t k a h′);
       left = record { kept = K; sound = S; shown = sym (asked-now before t k a h′) };
     }
 
-module _ (s : Setup) (before : State) (t k a : ℕ) (S : Sound before)
-    (e : early before t k a ≡ 0) (c : Cursor) (q o g d : List ℕ)
-    (R : Reached s c q (moved before t) (parts s c q o g d)) where
+module _ (t k a : ℕ) {p : Setup} {before : State} (S : Sound before) (e : early before t k a ≡ 0) {c : Cursor}
+    {q o g d : List ℕ}
+    (R : Reached p c q (moved before t) (parts p c q o g d)) where
   owed-moved : at o k ≡ at (moved before t .owed) k
   owed-moved = ap (λ (x : State). at (x .owed) k) (R .shown)
 
-  pub asks-open : 0 < at o k → Asks s t k a (record { refusal = 14; cursor = c }) q before (parts s c q o g d)
+  pub asks-open : 0 < at o k → Asks p t k a (record { refusal = 14; cursor = c }) q before (parts p c q o g d)
   asks-open h =
       let r : requestRefusal before t k a ≡ 14 = refusal-open before t k a e (omega (arith, owed-moved)) in
       record {
@@ -70,7 +70,7 @@ module _ (s : Setup) (before : State) (t k a : ℕ) (S : Sound before)
     none : requestRefusal before t k a ≡ 0
     none = refusal-none before t k a e (sym owed-moved ∙ z)
 
-    opened-sound : Sound (opened (parts s c q o g d) k a)
+    opened-sound : Sound (opened (parts p c q o g d) k a)
     opened-sound =
         subst (λ (x : State). Sound (opened x k a)) (sym (R .shown))
         (request-sound before t k a S (request-accepted before t k a none))
@@ -78,14 +78,14 @@ module _ (s : Setup) (before : State) (t k a : ℕ) (S : Sound before)
     -- a task that is not open has a place in the queue's array
     pub asks-room : c .queued < 32
     asks-room =
-        let l = queueAt-length s (c .head) (c .queued) q (omega (arith, R .kept .tidy .fits, R .kept .tidy .whole)) in
-        let m : length (queueAt s (c .head) (c .queued) q) ≡ length (moved before t .queue) =
+        let l = length-queueAt p (c .head) (c .queued) q (omega (arith, R .kept .tidy .fits, R .kept .tidy .whole)) in
+        let m : length (queueAt p (c .head) (c .queued) q) ≡ length (moved before t .queue) =
         ap (λ (x : State). length (x .queue)) (R .shown) in
         omega (arith, queue-room before t k a S none)
 
-    pub asks-taken : (r : Cursor) (q′ o′ : List ℕ) → Opens s c k a q o r q′ o′
-        → Asks s t k a (record { refusal = 0; cursor = r }) q′ before (parts s r q′ o′ g d)
-    asks-taken r q′ o′ O =
+    pub asks-taken : {r : Cursor} {q′ o′ : List ℕ} → Opens p c k a q o r q′ o′
+        → Asks p t k a (record { refusal = 0; cursor = r }) q′ before (parts p r q′ o′ g d)
+    asks-taken O =
         record {
           answer = sym none;
           left =

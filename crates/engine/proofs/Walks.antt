@@ -8,24 +8,25 @@ use Rattle.rule.specs.Tick.{ticks}
 use Rattle.rule.specs.Calls.{moved}
 use Rattle.rule.specs.declared.Setup.{Setup}
 use Rattle.laws.specs.Sound.{Sound}
-use Rattle.laws.proofs.Ticks.{ticks-zero, ticks-add}
+use Rattle.laws.proofs.Ticks.{ticks-zero, ticks-add, ticks-clock}
 use Rattle.laws.proofs.Sound.{ticks-sound}
 use Rattle.legs.specs.Parts.{Kept}
-use Rattle.steps.specs.Inner.{Stepped}
-use Rattle.engine.specs.Promises.{Reached}
 use Rattle.legs.specs.declared.Cursor.{Cursor}
+use Rattle.steps.specs.Steps.{stride, Stepped}
+use Rattle.steps.proofs.Steps.{stepped-later, stepped-soon}
+use Rattle.engine.specs.Promises.{Reached}
 
 -- the parts stand for the state now, which comes of start by ticks
-pub record Going (time : ℕ) (s : Setup) (start : State) (c : Cursor) (q : List ℕ) (now : State) : Type 0 where
-  pub kept : Kept s c q
+pub record Walking (time : ℕ) (p : Setup) (start : State) (c : Cursor) (q : List ℕ) (now : State) : Type 0 where
+  pub kept : Kept p c q
   pub sound : Sound now
   pub since : start .clock ≤ now .clock
   pub until : now .clock ≤ time
   pub shown : now ≡ ticks (now .clock - start .clock) start
 
-module _ (time : ℕ) (s : Setup) (start : State) (c : Cursor) (q : List ℕ) where
-  pub going-start : Kept s c q → Sound start → start .clock ≤ time → Going time s start c q start
-  going-start K S h =
+module _ {time : ℕ} {p : Setup} {start : State} {c : Cursor} {q : List ℕ} where
+  pub walking-start : Kept p c q → Sound start → start .clock ≤ time → Walking time p start c q start
+  walking-start K S h =
       let z : 0 ≡ start .clock - start .clock = omega arith in
       record {
         kept = K;
@@ -35,27 +36,33 @@ module _ (time : ℕ) (s : Setup) (start : State) (c : Cursor) (q : List ℕ) wh
         shown = sym (ticks-zero start) ∙ ap (λ (k : ℕ). ticks k start) z;
       }
 
-  module _ (now : State) (G : Going time s start c q now) where
-    pub going-step : (r : Cursor) (q′ : List ℕ) (after : State) → now .clock < time
-        → Stepped s r q′ (time - now .clock) now after → Going time s start r q′ after
-    going-step r q′ after h J =
+  module _ {now : State} (W : Walking time p start c q now) where
+    pub walking-step : {r : Cursor} {q′ : List ℕ} {after : State} → now .clock < time
+        → Stepped p r q′ (time - now .clock) now after → Walking time p start r q′ after
+    walking-step {r} {q′} {after} h J =
         let a = now .clock - start .clock in
-        let b = after .clock - now .clock in
-        let e : a + b ≡ after .clock - start .clock = omega (arith, J .later, G .since) in
+        let b = stride now (time - now .clock) in
+        let f : after .clock ≡ now .clock + b = ap (λ (x : State). x .clock) (J .shown) ∙ ticks-clock b now in
+        let e : a + b ≡ after .clock - start .clock = omega (arith, W .since) in
         record {
           kept = J .kept;
-          sound = subst Sound (sym (J .shown)) (ticks-sound b now (G .sound));
-          since = omega (arith, J .later, G .since);
-          until = omega (arith, J .soon);
+          sound = subst Sound (sym (J .shown)) (ticks-sound b now (W .sound));
+          since = omega (arith, W .since);
+          until = omega (arith, stepped-soon (W .sound) (omega arith) J);
           shown =
               J .shown
-              ∙ ap (ticks b) (G .shown)
+              ∙ ap (ticks b) (W .shown)
               ∙ sym (ticks-add a b start)
               ∙ ap (λ (k : ℕ). ticks k start) e;
         }
 
-    pub going-end : time ≤ now .clock → Reached s c q (moved start time) now
+    -- the time is nearer after a step
+    pub walking-less : {r : Cursor} {q′ : List ℕ} {after : State} → now .clock < time
+        → Stepped p r q′ (time - now .clock) now after → time - after .clock < time - now .clock
+    walking-less h J = omega (arith, stepped-later (W .sound) (omega arith) J)
+
+    pub walking-end : time ≤ now .clock → Reached p c q (moved start time) now
     unfolding moved
-    going-end h =
-        let e : now .clock - start .clock ≡ time - start .clock = omega (arith, G .until) in
-        record { kept = G .kept; sound = G .sound; shown = G .shown ∙ ap (λ (k : ℕ). ticks k start) e }
+    walking-end h =
+        let e : now .clock - start .clock ≡ time - start .clock = omega (arith, W .until) in
+        record { kept = W .kept; sound = W .sound; shown = W .shown ∙ ap (λ (k : ℕ). ticks k start) e }

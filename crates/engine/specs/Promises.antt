@@ -15,41 +15,41 @@ use Rattle.laws.specs.Next.{DoneNext}
 use Rattle.legs.specs.Parts.{parts, Kept}
 use Rattle.legs.specs.declared.Cursor.{Cursor}
 use Rattle.engine.specs.declared.Asked.{Asked}
-use Rattle.engine.specs.declared.Completion.{Completion}
+use Rattle.engine.specs.declared.NextDone.{NextDone}
 
 -- ---- moves of the clock
 
 -- The parts stand for the state aim.
-pub record Reached (s : Setup) (r : Cursor) (q : List ℕ) (aim after : State) : Type 0 where
-  pub kept : Kept s r q
+pub record Reached (p : Setup) (r : Cursor) (q : List ℕ) (aim after : State) : Type 0 where
+  pub kept : Kept p r q
   pub sound : Sound after
   pub shown : after ≡ aim
 
 -- ---- a request
 
 -- What a request leaves of the parts' state. Accepted, it has opened the task. Refused by 10 to 13, it has changed
--- nothing. Refused by 14, it has moved the clock: who asked by value keeps the run, and a table stops.
+-- nothing. Refused by 14, it has moved the clock: a table stops there.
 unfoldable pub afterAsk : State → ℕ → ℕ → ℕ → State
 afterAsk s t k a =
     cond (eqb (requestRefusal s t k a) 0) (opened (moved s t) k a)
     (cond (eqb (requestRefusal s t k a) 14) (moved s t) s)
 
 -- A request's answer, and what it leaves.
-pub record Asks (s : Setup) (t k a : ℕ) (r : Asked) (q : List ℕ) (before after : State) : Type 0 where
+pub record Asks (p : Setup) (t k a : ℕ) (r : Asked) (q : List ℕ) (before after : State) : Type 0 where
   pub answer : r .refusal ≡ requestRefusal before t k a
-  pub left : Reached s (r .cursor) q (afterAsk before t k a) after
+  pub left : Reached p (r .cursor) q (afterAsk before t k a) after
 
 -- ---- the next completion
 
 -- The parts are those of a sound state, whatever was given and done.
-pub record Owing (s : Setup) (c : Cursor) (q o : List ℕ) : Type 0 where
+pub record Owing (p : Setup) (c : Cursor) (q o : List ℕ) : Type 0 where
   pub given : List ℕ
   pub done : List ℕ
-  pub sound : Sound (parts s c q o given done)
+  pub sound : Sound (parts p c q o given done)
 
 -- "the task that would be done next and when, if nothing more were asked"
-abbrev pub SoonestIs : Setup → Cursor → List ℕ → List ℕ → Completion → Type 0
-SoonestIs s c q o r = (g d : List ℕ) → Sound (parts s c q o g d) → DoneNext (parts s c q o g d) (r .task) (r .time)
+abbrev pub SoonestIs : Setup → Cursor → List ℕ → List ℕ → NextDone → Type 0
+SoonestIs p c q o r = (g d : List ℕ) → Sound (parts p c q o g d) → DoneNext (parts p c q o g d) (r .task) (r .time)
 
 -- ---- a run taken apart
 

@@ -12,12 +12,13 @@ ghost use Rattle.lists.specs.Lists.{total};
 ghost use Rattle.rule.specs.Calls.{moved, drained};
 ghost use Rattle.rule.specs.View.{view, Tidy, Shows};
 ghost use Rattle.laws.specs.Sound.{Sound};
+ghost use Rattle.laws.specs.Drains.{lastClock};
 ghost use Rattle.legs.specs.Parts.{parts, Kept};
 ghost use Rattle.engine.specs.Promises.{Reached, Asks, Owing, SoonestIs, Apart};
 
 // The clock moves to a time that is not before it.
 pub fn walk(
-    s: Setup,
+    p: Setup,
     from: Cursor,
     time: u32,
     queue: &mut [u8; 32],
@@ -25,18 +26,18 @@ pub fn walk(
     given: &mut [u32; 32],
     done: &mut [u32; 32],
 ) -> Cursor
-    requires { ⌜ Kept s from (now queue) ⌝ }
-    requires { ⌜ Sound (parts s from (now queue) (now owed) (now given) (now done)) ⌝ }
+    requires { ⌜ Kept p from (now queue) ⌝ }
+    requires { ⌜ Sound (parts p from (now queue) (now owed) (now given) (now done)) ⌝ }
     requires { ⌜ from .clock ≤ time ⌝ }
-    requires { ⌜ time ≤ 4_032_000_000 ⌝ }
-    ensures { λ r. ⌜ Reached s r (now (queue .exit))
-        (moved (parts s from (now (queue .entry)) (now (owed .entry)) (now (given .entry)) (now (done .entry))) time)
-        (parts s r (now (queue .exit)) (now (owed .exit)) (now (given .exit)) (now (done .exit))) ⌝ }
+    requires { ⌜ time ≤ lastClock ⌝ }
+    ensures { λ r. ⌜ Reached p r (now (queue .exit))
+        (moved (parts p from (now (queue .entry)) (now (owed .entry)) (now (given .entry)) (now (done .entry))) time)
+        (parts p r (now (queue .exit)) (now (owed .exit)) (now (given .exit)) (now (done .exit))) ⌝ }
 {
     let mut c = from;
     while c.clock < time {
         // Whole rounds of slices, by division, have their place here, before the step and with a promise like its own.
-        c = steps::step(s, c, time - c.clock, queue, owed, given, done);
+        c = steps::step(p, c, time - c.clock, queue, owed, given, done);
     }
     c
 }
@@ -58,22 +59,22 @@ pub fn total_of(owed: &[u32; 32]) -> u32
 
 // The clock moves to the first instant at which nothing is open.
 pub fn drain_on(
-    s: Setup,
+    p: Setup,
     c: Cursor,
     queue: &mut [u8; 32],
     owed: &mut [u32; 32],
     given: &mut [u32; 32],
     done: &mut [u32; 32],
 ) -> Cursor
-    requires { ⌜ Kept s c (now queue) ⌝ }
-    requires { ⌜ Sound (parts s c (now queue) (now owed) (now given) (now done)) ⌝ }
-    requires { ⌜ c .clock + total (now owed) ≤ 4_032_000_000 ⌝ }
-    ensures { λ r. ⌜ Reached s r (now (queue .exit))
-        (drained (parts s c (now (queue .entry)) (now (owed .entry)) (now (given .entry)) (now (done .entry))))
-        (parts s r (now (queue .exit)) (now (owed .exit)) (now (given .exit)) (now (done .exit))) ⌝ }
+    requires { ⌜ Kept p c (now queue) ⌝ }
+    requires { ⌜ Sound (parts p c (now queue) (now owed) (now given) (now done)) ⌝ }
+    requires { ⌜ c .clock + total (now owed) ≤ lastClock ⌝ }
+    ensures { λ r. ⌜ Reached p r (now (queue .exit))
+        (drained (parts p c (now (queue .entry)) (now (owed .entry)) (now (given .entry)) (now (done .entry))))
+        (parts p r (now (queue .exit)) (now (owed .exit)) (now (given .exit)) (now (done .exit))) ⌝ }
 {
     let left = total_of(owed);
-    walk(s, c, c.clock + left, queue, owed, given, done)
+    walk(p, c, c.clock + left, queue, owed, given, done)
 }
 
 // A request's refusal, 0 where it is accepted, and the cursor afterwards.
@@ -85,7 +86,7 @@ pub struct Asked {
 // A request on the parts. Refused by 14 it leaves them moved to the time. Only tables call it: with one caller it is
 // part of their loop, which saves over 50 instructions a row.
 pub fn ask(
-    s: Setup,
+    p: Setup,
     c: Cursor,
     time: u32,
     task: u32,
@@ -95,17 +96,17 @@ pub fn ask(
     given: &mut [u32; 32],
     done: &mut [u32; 32],
 ) -> Asked
-    requires { ⌜ Kept s c (now queue) ⌝ }
-    requires { ⌜ Sound (parts s c (now queue) (now owed) (now given) (now done)) ⌝ }
-    ensures { λ r. ⌜ Asks s time task amount r (now (queue .exit))
-        (parts s c (now (queue .entry)) (now (owed .entry)) (now (given .entry)) (now (done .entry)))
-        (parts s (r .cursor) (now (queue .exit)) (now (owed .exit)) (now (given .exit)) (now (done .exit))) ⌝ }
+    requires { ⌜ Kept p c (now queue) ⌝ }
+    requires { ⌜ Sound (parts p c (now queue) (now owed) (now given) (now done)) ⌝ }
+    ensures { λ r. ⌜ Asks p time task amount r (now (queue .exit))
+        (parts p c (now (queue .entry)) (now (owed .entry)) (now (given .entry)) (now (done .entry)))
+        (parts p (r .cursor) (now (queue .exit)) (now (owed .exit)) (now (given .exit)) (now (done .exit))) ⌝ }
 {
-    let refusal = requests::early_refusal(s.count, c.clock, time, task, amount);
+    let refusal = requests::early_refusal(p.count, c.clock, time, task, amount);
     if refusal != 0 {
         return Asked { refusal, cursor: c };
     }
-    let ready = walk(s, c, time, queue, owed, given, done);
+    let ready = walk(p, c, time, queue, owed, given, done);
     let i = task as usize;
     let o = owed[i];
     if 0 < o {
@@ -114,38 +115,38 @@ pub fn ask(
             cursor: ready,
         };
     }
-    let cursor = opening::joined(s, ready, task as u8, amount, queue, owed);
+    let cursor = opening::joined(p, ready, task as u8, amount, queue, owed);
     Asked { refusal: 0, cursor }
 }
 
 // A task, and when it is done.
-pub struct Completion {
+pub struct NextDone {
     pub task: u32,
     pub time: u32,
 }
 
 // The task that is done next, and when, if nothing more is asked. Something is open.
-pub fn soonest(s: Setup, from: Cursor, queue: &[u8; 32], owed: &[u32; 32]) -> Completion
-    requires { ⌜ Kept s from (now queue) ⌝ }
-    requires { ⌜ Owing s from (now queue) (now owed) ⌝ }
+pub fn soonest(p: Setup, from: Cursor, queue: &[u8; 32], owed: &[u32; 32]) -> NextDone
+    requires { ⌜ Kept p from (now queue) ⌝ }
+    requires { ⌜ Owing p from (now queue) (now owed) ⌝ }
     requires { ⌜ 0 < from .queued ⌝ }
-    requires { ⌜ from .clock + total (now owed) ≤ 4_032_000_000 ⌝ }
-    ensures { λ r. ⌜ SoonestIs s from (now (queue .entry)) (now (owed .entry)) r ⌝ }
+    requires { ⌜ from .clock + total (now owed) ≤ lastClock ⌝ }
+    ensures { λ r. ⌜ SoonestIs p from (now (queue .entry)) (now (owed .entry)) r ⌝ }
 {
     let mut left = *owed;
     let mut c = from;
     loop {
-        let leg = legs::next_leg(s, c, 4_032_000_000, queue, &left);
+        let leg = legs::next_leg(p, c, 4_032_000_000, queue, &left);
         let ready = leg.cursor;
         if leg.owed == leg.n {
-            return Completion {
+            return NextDone {
                 task: leg.task as u32,
                 time: ready.clock + leg.n,
             };
         }
         let i = leg.task as usize;
         left[i] = leg.owed - leg.n;
-        c = legs::served(s, ready, leg.n);
+        c = legs::served(p, ready, leg.n);
     }
 }
 
@@ -155,9 +156,9 @@ pub fn cursor_of(run: Run) -> Cursor
     requires { ⌜ Sound (view run) ⌝ }
     ensures { λ r. ⌜ Apart run r ⌝ }
 {
-    let s = run.setup;
+    let p = run.setup;
     let queue = run.queue;
-    let head = line::head_of(s, 0, run.queued, &queue);
+    let head = line::head_of(p, 0, run.queued, &queue);
     Cursor {
         clock: run.clock,
         idle: run.idle as usize,
@@ -169,25 +170,25 @@ pub fn cursor_of(run: Run) -> Cursor
 
 // The run that the parts make, its queue from place 0 on.
 pub fn run_of(
-    s: Setup,
+    p: Setup,
     c: Cursor,
     queue: &[u8; 32],
     owed: &[u32; 32],
     given: &[u32; 32],
     done: &[u32; 32],
 ) -> Run
-    requires { ⌜ Kept s c (now queue) ⌝ }
-    requires { ⌜ Sound (parts s c (now queue) (now owed) (now given) (now done)) ⌝ }
+    requires { ⌜ Kept p c (now queue) ⌝ }
+    requires { ⌜ Sound (parts p c (now queue) (now owed) (now given) (now done)) ⌝ }
     ensures { λ r. ⌜ Shows r
-        (parts s c (now (queue .entry)) (now (owed .entry)) (now (given .entry)) (now (done .entry))) ⌝ }
+        (parts p c (now (queue .entry)) (now (owed .entry)) (now (given .entry)) (now (done .entry))) ⌝ }
 {
     let mut q = *queue;
     let o = *owed;
     let g = *given;
     let d = *done;
-    let r = opening::straightened(s, c, &mut q);
+    let r = opening::straightened(p, c, &mut q);
     Run {
-        setup: s,
+        setup: p,
         clock: r.clock,
         idle: r.idle as u32,
         used: r.used,

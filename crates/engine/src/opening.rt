@@ -7,16 +7,16 @@ ghost use mathlib.Core.List.{_++_};
 ghost use lib.ListN.{drop};
 ghost use Rattle.line.specs.Places.{queueAt, Tasks};
 ghost use Rattle.legs.specs.Parts.{Kept};
-ghost use Rattle.engine.specs.Inner.{straightTo, Opens};
+ghost use Rattle.engine.specs.Joining.{straightTo, Opens};
 
 // The queue from place 0 on.
-pub fn straightened(s: Setup, c: Cursor, queue: &mut [u8; 32]) -> Cursor
-    requires { ⌜ Kept s c (now queue) ⌝ }
-    ensures { λ r. ⌜ r ≡ straightTo s c ⌝ }
+pub fn straightened(p: Setup, c: Cursor, queue: &mut [u8; 32]) -> Cursor
+    requires { ⌜ Kept p c (now queue) ⌝ }
+    ensures { λ r. ⌜ r ≡ straightTo p c ⌝ }
     ensures { λ r. ⌜ now (queue .exit)
-        ≡ queueAt s (c .head) (c .queued) (now (queue .entry)) ++ drop (c .queued) (now (queue .entry)) ⌝ }
+        ≡ queueAt p (c .head) (c .queued) (now (queue .entry)) ++ drop (c .queued) (now (queue .entry)) ⌝ }
 {
-    if s.policy == 1 {
+    if p.policy == 1 {
         return c;
     }
     let q = *queue;
@@ -32,26 +32,26 @@ pub fn straightened(s: Setup, c: Cursor, queue: &mut [u8; 32]) -> Cursor
 
 // A task that is not open joins the back of the queue.
 pub fn joined(
-    s: Setup,
+    p: Setup,
     c: Cursor,
     task: u8,
     amount: u32,
     queue: &mut [u8; 32],
     owed: &mut [u32; 32],
 ) -> Cursor
-    requires { ⌜ Kept s c (now queue) ⌝ }
+    requires { ⌜ Kept p c (now queue) ⌝ }
     requires { ⌜ c .queued < 32 ⌝ }
     requires { ⌜ Tasks (now queue) ⌝ }
     requires { ⌜ task < 32 ⌝ }
-    ensures { λ r. ⌜ Opens s c task amount (now (queue .entry)) (now (owed .entry)) r
+    ensures { λ r. ⌜ Opens p c task amount (now (queue .entry)) (now (owed .entry)) r
         (now (queue .exit)) (now (owed .exit)) ⌝ }
 {
     let i = task as usize;
     owed[i] = amount;
-    let ready = straightened(s, c, queue);
+    let ready = straightened(p, c, queue);
     let n = ready.queued;
     queue[n] = task;
-    let head = line::head_with(s, ready.head, n, queue);
+    let head = line::head_with(p, ready.head, n, queue);
     Cursor {
         clock: c.clock,
         idle: c.idle,

@@ -15,7 +15,8 @@ use Rattle.lists.proofs.Counting.{times-cons, times-nil, times-append, times-wi
 use Rattle.rule.specs.Setups.{isPriority}
 use Rattle.rule.specs.State.{State}
 use Rattle.rule.specs.Tick.{chosen, overdue, headBack, turn, usedMore, last, give, rest, serve, tickOn, tick}
-use Rattle.laws.specs.Sound.{Sliced}
+use Rattle.rule.specs.declared.Setup.{Setup}
+use Rattle.laws.specs.Sound.{Sliced, Room}
 use Rattle.laws.proofs.Chosen.{chosen-member}
 
 -- The state r comes of the state s by a tick that task i got.
@@ -59,14 +60,13 @@ length-turn s =
     refl
 
 -- after the turn some of the slice is left
-pub used-turn : (s : State) → isPriority (s .setup) ≡ false → Sliced (s .setup) (s .used)
-    → turn s .used < s .setup .slice
-unfolding turn overdue
-used-turn s e h =
-    rw e
-    (tested (eqb (s .used) (s .setup .slice))
-    (λ f. rw f (h .some))
-    (λ f. rw f (omega (arith, h .inside, eqb-false (s .used) (s .setup .slice) f))))
+pub overdue-room : (p : Setup) (used : ℕ) → (isPriority p ≡ false → Sliced p used)
+    → Room p (cond (overdue p used) 0 used) 1
+unfolding overdue
+overdue-room p used h e =
+    tested (eqb used (p .slice))
+    (λ f. rw (e, f) (omega (arith, h e .some)))
+    (λ f. rw (e, f) (omega (arith, h e .inside, eqb-false used (p .slice) f)))
 
 -- ---- the service
 
@@ -88,7 +88,7 @@ serve-used : (s : State) (i : ℕ) → isPriority (s .setup) ≡ false → Slice
     → give (turn s) i 1 .used ≤ s .setup .slice
 unfolding give usedMore turn
 serve-used s i e h =
-    let more : turn s .used < s .setup .slice = used-turn s e h in
+    let more : turn s .used + 1 ≤ s .setup .slice = overdue-room (s .setup) (s .used) (λ _. h) e in
     cond-both (λ (n : ℕ). n ≤ s .setup .slice) (last s i 1) 0 _
     (omega (arith, h .some))
     (rw e (omega arith))

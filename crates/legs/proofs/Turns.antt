@@ -12,94 +12,78 @@ use Rattle.rule.specs.Setups.{isPriority}
 use Rattle.rule.specs.Tick.{overdue, headBack, turn}
 use Rattle.rule.specs.declared.Setup.{Setup}
 use Rattle.line.specs.Places.{queueAt}
-use Rattle.laws.specs.Sound.{Sliced, Room}
-use Rattle.legs.specs.Parts.{parts, Kept, sliceDue, nextPlace, turnedTo}
+use Rattle.legs.specs.Parts.{withQueue, parts, Kept, sliceDue, nextPlace, turnedTo}
 use Rattle.legs.specs.declared.Cursor.{Cursor}
-use Rattle.line.proofs.Rings.{ring-next}
+use Rattle.line.proofs.Rings.{headBack-ring}
 use Rattle.line.proofs.Queues.{queueAt-robin}
 use Rattle.line.proofs.Heads.{chosen-robin}
 
 -- ---- when it comes
 
-pub overdue-robin : (s : Setup) (used : ℕ) → overdue s used ≡ true → isPriority s ≡ false
+pub overdue-robin : (p : Setup) (used : ℕ) → overdue p used ≡ true → isPriority p ≡ false
 unfolding overdue
-overdue-robin s used e =
-    tested (isPriority s)
-    (λ f. absurd (false≢true (sym (cond-true false (eqb used (s .slice)) f) ∙ e)))
+overdue-robin p used e =
+    tested (isPriority p)
+    (λ f. absurd (false≢true (sym (cond-true false (eqb used (p .slice)) f) ∙ e)))
     (λ f. f)
 
-pub sliceDue-robin : (s : Setup) (c : Cursor) (limit : ℕ) → sliceDue s c limit ≡ true → isPriority s ≡ false
-sliceDue-robin s c limit e =
-    overdue-robin s (c .used) (and-true (overdue s (c .used)) (leb (s .slice) limit) e .0)
+sliceDue-overdue : (p : Setup) (c : Cursor) (limit : ℕ) → sliceDue p c limit ≡ true → overdue p (c .used) ≡ true
+sliceDue-overdue p c limit e = and-true (overdue p (c .used)) (leb (p .slice) limit) e .0
 
-pub sliceDue-whole : (s : Setup) (c : Cursor) (limit : ℕ) → sliceDue s c limit ≡ true → s .slice ≤ limit
-sliceDue-whole s c limit e = leb-true (s .slice) limit (and-true (overdue s (c .used)) (leb (s .slice) limit) e .1)
+pub sliceDue-robin : (p : Setup) (c : Cursor) (limit : ℕ) → sliceDue p c limit ≡ true → isPriority p ≡ false
+sliceDue-robin p c limit e = overdue-robin p (c .used) (sliceDue-overdue p c limit e)
+
+pub sliceDue-whole : (p : Setup) (c : Cursor) (limit : ℕ) → sliceDue p c limit ≡ true → p .slice ≤ limit
+sliceDue-whole p c limit e = leb-true (p .slice) limit (and-true (overdue p (c .used)) (leb (p .slice) limit) e .1)
 
 -- ---- what it does
+
+pub turned-used : (p : Setup) (c : Cursor) (limit : ℕ) → sliceDue p c limit ≡ true → turnedTo p c .used ≡ 0
+unfolding turnedTo
+turned-used p c limit e = cond-true 0 (c .used) (sliceDue-overdue p c limit e)
 
 next-below : (h n : ℕ) (b : Bool) → h < n → cond b (cond (eqb (h + 1) n) 0 (h + 1)) h < n
 next-below h n false l = l
 next-below h n true l =
     tested (eqb (h + 1) n) (λ e. rw e (omega arith)) (λ e. rw e (omega (arith, eqb-false (h + 1) n e)))
 
-pub turned-room : (s : Setup) (c : Cursor) → (isPriority s ≡ false → Sliced s (c .used))
-    → Room s (turnedTo s c .used) 1
-unfolding overdue turnedTo
-turned-room s c h e =
-    tested (eqb (c .used) (s .slice))
-    (λ f. rw (e, f) (omega (arith, h e .some)))
-    (λ f. rw (e, f) (omega (arith, h e .inside, eqb-false (c .used) (s .slice) f)))
-
-module _ (s : Setup) (c : Cursor) (q : List ℕ) (K : Kept s c q) (some : 0 < c .queued) where
-  pub turned-some : turnedTo s c .head < c .queued
+module _ {p : Setup} {c : Cursor} {q : List ℕ} (K : Kept p c q) (some : 0 < c .queued) where
+  pub turned-some : turnedTo p c .head < c .queued
   unfolding turnedTo
-  turned-some = next-below (c .head) (c .queued) (overdue s (c .used)) (omega (arith, K .inside))
+  turned-some = next-below (c .head) (c .queued) (overdue p (c .used)) (omega (arith, K .inside))
 
-  pub turned-kept : Kept s (turnedTo s c) q
+  pub turned-kept : Kept p (turnedTo p c) q
   unfolding turnedTo
   turned-kept =
       record {
         tidy = K .tidy;
         inside = omega (arith, turned-some);
-        serves = λ p.
-            tested (overdue s (c .used))
+        serves = λ y.
+            tested (overdue p (c .used))
             (λ f.
-            sym (chosen-robin s (turnedTo s c .head) (c .queued) q (overdue-robin s (c .used) f) turned-some
+            sym (chosen-robin p (turnedTo p c .head) (c .queued) q (overdue-robin p (c .used) f) turned-some
             (omega (arith, K .tidy .fits, K .tidy .whole))))
-            (λ f. rw f (K .serves p));
+            (λ f. rw f (K .serves y));
       }
 
-  queue-turn : queueAt s (turnedTo s c .head) (c .queued) q
-      ≡ cond (overdue s (c .used)) (headBack (queueAt s (c .head) (c .queued) q)) (queueAt s (c .head) (c .queued) q)
+  queueAt-turned : queueAt p (turnedTo p c .head) (c .queued) q
+      ≡ cond (overdue p (c .used)) (headBack (queueAt p (c .head) (c .queued) q)) (queueAt p (c .head) (c .queued) q)
   unfolding turnedTo
-  queue-turn =
+  queueAt-turned =
       let h = c .head in
       let n = c .queued in
-      tested (overdue s (c .used))
+      tested (overdue p (c .used))
       (λ f.
-      let e : isPriority s ≡ false = overdue-robin s (c .used) f in
-      ap (λ (x : ℕ). queueAt s x n q) (cond-true (nextPlace c) h f)
-      ∙ queueAt-robin s (nextPlace c) n q e
-      ∙ sym (ring-next h n q (omega (arith, K .inside)) (omega (arith, K .tidy .fits, K .tidy .whole)))
-      ∙ ap headBack (sym (queueAt-robin s h n q e))
-      ∙ sym (cond-true (headBack (queueAt s h n q)) (queueAt s h n q) f))
+      let e : isPriority p ≡ false = overdue-robin p (c .used) f in
+      ap (λ (x : ℕ). queueAt p x n q) (cond-true (nextPlace c) h f)
+      ∙ queueAt-robin p (nextPlace c) n q e
+      ∙ sym (headBack-ring h n q (omega (arith, K .inside)) (omega (arith, K .tidy .fits, K .tidy .whole)))
+      ∙ ap headBack (sym (queueAt-robin p h n q e))
+      ∙ sym (cond-true (headBack (queueAt p h n q)) (queueAt p h n q) f))
       (λ f.
-      ap (λ (x : ℕ). queueAt s x n q) (cond-false (nextPlace c) h f)
-      ∙ sym (cond-false (headBack (queueAt s h n q)) (queueAt s h n q) f))
+      ap (λ (x : ℕ). queueAt p x n q) (cond-false (nextPlace c) h f)
+      ∙ sym (cond-false (headBack (queueAt p h n q)) (queueAt p h n q) f))
 
-  pub parts-turn : (o g d : List ℕ) → parts s (turnedTo s c) q o g d ≡ turn (parts s c q o g d)
+  pub parts-turn : {o g d : List ℕ} → parts p (turnedTo p c) q o g d ≡ turn (parts p c q o g d)
   unfolding turn overdue turnedTo
-  parts-turn o g d =
-      ap
-      (λ (x : List ℕ).
-      record {
-        setup = s;
-        clock = c .clock;
-        idle = c .idle;
-        used = cond (overdue s (c .used)) 0 (c .used);
-        queue = x;
-        owed = o;
-        given = g;
-        done = d;
-      })
-      queue-turn
+  parts-turn {o} {g} {d} = ap (λ (x : List ℕ). withQueue p (turnedTo p c) x o g d) queueAt-turned

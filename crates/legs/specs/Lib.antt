@@ -1,2 +1,2 @@
 pub mod Parts
-pub mod Inner
+pub mod Legs

@@ -15,51 +15,56 @@ use Rattle.legs.specs.declared.Cursor.{Cursor}
 
 -- ---- the state of the parts
 
-abbrev pub parts : Setup → Cursor → List ℕ → List ℕ → List ℕ → List ℕ → State
-parts s c q o g d =
+-- with this queue
+abbrev pub withQueue : Setup → Cursor → List ℕ → List ℕ → List ℕ → List ℕ → State
+withQueue p c queue o g d =
     record {
-      setup = s;
+      setup = p;
       clock = c .clock;
       idle = c .idle;
       used = c .used;
-      queue = queueAt s (c .head) (c .queued) q;
+      queue = queue;
       owed = o;
       given = g;
       done = d;
     }
 
+-- with the queue that stands in the array q
+abbrev pub parts : Setup → Cursor → List ℕ → List ℕ → List ℕ → List ℕ → State
+parts p c q o g d = withQueue p c (queueAt p (c .head) (c .queued) q) o g d
+
 -- What the parts keep besides: the array holds 0 behind the queue, and the task that is served stands at the head.
-pub record Kept (s : Setup) (c : Cursor) (q : List ℕ) : Type 0 where
+pub record Kept (p : Setup) (c : Cursor) (q : List ℕ) : Type 0 where
   pub tidy : Clear (c .queued) q
   pub inside : c .head ≤ c .queued - 1
-  pub serves : 0 < c .queued → at q (c .head) ≡ chosen s (queueAt s (c .head) (c .queued) q)
+  pub serves : 0 < c .queued → at q (c .head) ≡ chosen p (queueAt p (c .head) (c .queued) q)
 
 -- ---- the cursor's moves
 
 -- a turn comes, and the limit leaves it a whole slice
 abbrev pub sliceDue : Setup → Cursor → ℕ → Bool
-sliceDue s c limit = overdue s (c .used) && leb (s .slice) limit
+sliceDue p c limit = overdue p (c .used) && leb (p .slice) limit
 
 abbrev pub nextPlace : Cursor → ℕ
 nextPlace c = cond (eqb (c .head + 1) (c .queued)) 0 (c .head + 1)
 
 unfoldable pub turnedTo : Setup → Cursor → Cursor
-turnedTo s c =
+turnedTo p c =
     record {
       clock = c .clock;
       idle = c .idle;
-      used = cond (overdue s (c .used)) 0 (c .used);
+      used = cond (overdue p (c .used)) 0 (c .used);
       queued = c .queued;
-      head = cond (overdue s (c .used)) (nextPlace c) (c .head);
+      head = cond (overdue p (c .used)) (nextPlace c) (c .head);
     }
 
 -- n ticks to the head, of which none is the last that it is owed
 unfoldable pub servedTo : Setup → Cursor → ℕ → Cursor
-servedTo s c n =
+servedTo p c n =
     record {
       clock = c .clock + n;
       idle = c .idle;
-      used = usedMore s (c .used) n;
+      used = usedMore p (c .used) n;
       queued = c .queued;
       head = c .head;
     }

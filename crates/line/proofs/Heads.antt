@@ -1,5 +1,5 @@
--- Where the task stands that is served. In order: who is chosen; the scan for the one that goes first; heads, and one
--- more task. Assumes nothing.
+-- Where the task stands that is served. In order: who is chosen; of two tasks, the one that goes first; the scan for
+-- the one that goes first of many; heads; one more task. Assumes nothing.
 use Prim.Native.Nat.{ℕ, zero, suc, _+_, _-_, _≤_, _<_, zero-le}
 use native.Mathlib.Omega.{arith}
 use native.Mathlib.Numerals.{add-one}
@@ -23,22 +23,22 @@ use Rattle.line.proofs.Queues.{queueAt-priority, queueAt-robin}
 
 -- ---- who is chosen
 
-chosen-best : (s : Setup) (n : ℕ) (q : List ℕ) → isPriority s ≡ true → 0 < n → n ≤ length q
-    → chosen s (take n q) ≡ best (s .priority) (at q 0) (drop 1 (take n q))
+chosen-best : (p : Setup) (n : ℕ) (q : List ℕ) → isPriority p ≡ true → 0 < n → n ≤ length q
+    → chosen p (take n q) ≡ best (p .priority) (at q 0) (drop 1 (take n q))
 unfolding chosen
-chosen-best s zero q e h l = absurd (not-suc-le-zero h)
-chosen-best s (suc n) [] e h l = absurd (not-suc-le-zero l)
-chosen-best s (suc n) (x ∷ q) e h l = cond-true _ x e
+chosen-best p zero q e h l = absurd (not-suc-le-zero h)
+chosen-best p (suc n) [] e h l = absurd (not-suc-le-zero l)
+chosen-best p (suc n) (x ∷ q) e h l = cond-true _ x e
 
-pub chosen-robin : (s : Setup) (h n : ℕ) (q : List ℕ) → isPriority s ≡ false → h < n → n ≤ length q
-    → chosen s (queueAt s h n q) ≡ at q h
+pub chosen-robin : (p : Setup) (h n : ℕ) (q : List ℕ) → isPriority p ≡ false → h < n → n ≤ length q
+    → chosen p (queueAt p h n q) ≡ at q h
 unfolding chosen
-chosen-robin s h n q e b l = ap (chosen s) (queueAt-robin s h n q e ∙ ring-head h n q b l) ∙ cond-false _ (at q h) e
+chosen-robin p h n q e b l = ap (chosen p) (queueAt-robin p h n q e ∙ ring-head h n q b l) ∙ cond-false _ (at q h) e
 
--- ---- heads
+-- ---- of two tasks, the one that goes first
 
 -- the task a, with priority x, and another, with priority y
-module _ (prio : List ℕ) (a b x y : ℕ) (ex : x ≡ at prio a) (ey : y ≡ at prio b) where
+module _ (prio : List ℕ) (a b : ℕ) {x y : ℕ} (ex : x ≡ at prio a) (ey : y ≡ at prio b) where
   pub before-stays : y < x → before prio a b ≡ a
   unfolding before
   before-stays h = rw (← ex, ← ey, le-ltb x y (omega arith), lt-ltb y x h)
@@ -47,6 +47,8 @@ module _ (prio : List ℕ) (a b x y : ℕ) (ex : x ≡ at prio a) (ey : y ≡ at
   unfolding before
   before-overtakes r h e = rw (e, ← ex, ← ey, le-ltb y x h) (tested (ltb x y) (λ f. rw f) (λ f. rw f))
 
+-- ---- the scan
+
 -- of the first k tasks, the one that goes first is that at the place
 pub record Scanned (prio : List ℕ) (n : ℕ) (q : List ℕ) (place task top k : ℕ) : Type 0 where
   pub inside : place ≤ n - 1
@@ -54,30 +56,106 @@ pub record Scanned (prio : List ℕ) (n : ℕ) (q : List ℕ) (place task top k 
   pub ranks : top ≡ at prio task
   pub ahead : best prio (at q 0) (drop 1 (take n q)) ≡ best prio (at q place) (drop k (take n q))
 
--- the place k is passed, and of the two tasks that at j goes first
-pub scanned-step : (prio : List ℕ) (n : ℕ) (q : List ℕ) (place task top k j place′ task′ top′ : ℕ) → k < n
-    → n ≤ length q → Scanned prio n q place task top k → j ≤ n - 1 → before prio task (at q k) ≡ at q j → place′ ≡ j
-    → task′ ≡ at q j → top′ ≡ at prio (at q j) → Scanned prio n q place′ task′ top′ (k + 1)
+module _ {prio : List ℕ} {n : ℕ} {q : List ℕ} {place task top k : ℕ} (S : Scanned prio n q place task top k)
+    (l : n ≤ length q) where
+  -- the place k is passed, and of the two tasks that at j goes first
+  pub scanned-step : {j place′ task′ top′ : ℕ} → k < n → j ≤ n - 1 → before prio task (at q k) ≡ at q j → place′ ≡ j
+      → task′ ≡ at q j → top′ ≡ at prio (at q j) → Scanned prio n q place′ task′ top′ (k + 1)
+  unfolding best
+  scanned-step {place′ = place′} h i e ep et er =
+      record {
+        inside = omega arith;
+        stands = et ∙ ap (at q) (sym ep);
+        ranks = er ∙ ap (at prio) (sym et);
+        ahead =
+            S .ahead
+            ∙ ap (best prio (at q place)) (slice-cons k n q 0 h l)
+            ∙ ap (λ (x : ℕ). best prio (before prio x (at q k)) (drop (suc k) (take n q))) (sym (S .stands))
+            ∙ ap (λ (x : ℕ). best prio x (drop (suc k) (take n q))) (e ∙ ap (at q) (sym ep))
+            ∙ ap (λ (m : ℕ). best prio (at q place′) (drop m (take n q))) (sym (add-one k));
+      }
+
+  -- the task before goes first still
+  pub scanned-stays : {place′ task′ top′ : ℕ} → k < n → before prio task (at q k) ≡ task → place′ ≡ place → task′ ≡ task
+      → top′ ≡ top → Scanned prio n q place′ task′ top′ (k + 1)
+  scanned-stays h e ep et er =
+      scanned-step h (S .inside) (e ∙ S .stands) ep (et ∙ S .stands) (er ∙ S .ranks ∙ ap (at prio) (S .stands))
+
+  pub scanned-end : n ≤ k → Best prio n q place
+  unfolding best
+  scanned-end h =
+      let z : drop k (take n q) ≡ [] = drop-of-length-le (take n q) {i = k} (omega (arith, length-take-le n q l)) in
+      record { inside = S .inside; first = sym (S .ahead ∙ ap (best prio (at q place)) z) }
+
+-- ---- heads
+
+module _ {p : Setup} {h n : ℕ} {q : List ℕ} {r : ℕ} (H : Heads p h n q r) where
+  pub heads-inside : r ≤ n - 1
+  heads-inside =
+      tested (isPriority p)
+      (λ e. H .priority e .inside)
+      (λ e.
+      tested (ltb h n)
+      (λ f. rw (H .robin e, f) (omega (arith, ltb-true h n f)))
+      (λ f. rw (H .robin e, f) zero-le))
+
+  pub heads-serves : 0 < n → n ≤ length q → at q r ≡ chosen p (queueAt p r n q)
+  heads-serves y l =
+      tested (isPriority p)
+      (λ e. H .priority e .first ∙ sym (ap (chosen p) (queueAt-priority p r n q e) ∙ chosen-best p n q e y l))
+      (λ e. sym (chosen-robin p r n q e (omega (arith, heads-inside)) l))
+
+-- a head at which the chosen task stands
+pub serves-heads : {p : Setup} {h : ℕ} (n : ℕ) {q : List ℕ} → h ≤ n - 1 → n ≤ length q
+    → (0 < n → at q h ≡ chosen p (queueAt p h n q)) → Heads p h n q h
 unfolding best
-scanned-step prio n q place task top k j place′ task′ top′ h l S i e p t r =
+serves-heads {h = h} zero b l c =
+    let z : h ≡ 0 = omega arith in
     record {
-      inside = omega arith;
-      stands = t ∙ ap (at q) (sym p);
-      ranks = r ∙ ap (at prio) (sym t);
-      ahead =
-          S .ahead
-          ∙ ap (best prio (at q place)) (slice-cons k n q 0 h l)
-          ∙ ap (λ (x : ℕ). best prio (before prio x (at q k)) (drop (suc k) (take n q))) (sym (S .stands))
-          ∙ ap (λ (x : ℕ). best prio x (drop (suc k) (take n q))) (e ∙ ap (at q) (sym p))
-          ∙ ap (λ (m : ℕ). best prio (at q place′) (drop m (take n q))) (sym (add-one k));
+      robin = λ e. rw z;
+      priority = λ e. record { inside = b; first = rw z };
+    }
+serves-heads {p} {h} (suc n) {q} b l c =
+    record {
+      robin = λ e. sym (cond-true h 0 (lt-ltb h (suc n) (omega arith)));
+      priority = λ e.
+          record {
+            inside = b;
+            first =
+                c (omega arith)
+                ∙ ap (chosen p) (queueAt-priority p h (suc n) q e)
+                ∙ chosen-best p (suc n) q e (omega arith) l;
+          };
     }
 
-pub scanned-end : (prio : List ℕ) (n : ℕ) (q : List ℕ) (place task top k : ℕ) → n ≤ k → n ≤ length q
-    → Scanned prio n q place task top k → Best prio n q place
+-- what stands behind the queue does not matter
+pub heads-set : {p : Setup} {h : ℕ} (n : ℕ) {q : List ℕ} (k : ℕ) → Heads p h n q h → Heads p h n (set q n k) h
 unfolding best
-scanned-end prio n q place task top k h l S =
-    let z : drop k (take n q) ≡ [] = drop-of-length-le (take n q) {i = k} (omega (arith, length-take-le n q l)) in
-    record { inside = S .inside; first = sym (S .ahead ∙ ap (best prio (at q place)) z) }
+heads-set {h = h} zero k H =
+    let z : h ≡ 0 = omega (arith, heads-inside H) in
+    record {
+      robin = H .robin;
+      priority = λ e. record { inside = H .priority e .inside; first = rw z };
+    }
+heads-set {p} {h} (suc n) {q} k H =
+    let b : h ≤ suc n - 1 = heads-inside H in
+    let o : at (set q (suc n) k) h ≡ at q h = at-set-other q (suc n) k h (λ e. omega arith) in
+    let z : at (set q (suc n) k) 0 ≡ at q 0 = at-set-other q (suc n) k 0 (λ e. omega arith) in
+    record {
+      robin = H .robin;
+      priority = λ e.
+          record {
+            inside = b;
+            first =
+                o
+                ∙ H .priority e .first
+                ∙ ap (λ (x : ℕ). best (p .priority) x (drop 1 (take (suc n) q))) (sym z)
+                ∙ ap (λ (x : List ℕ). best (p .priority) (at (set q (suc n) k) 0) (drop 1 x))
+                (sym (take-set-le (suc n) q (suc n) k (omega arith)));
+          };
+    }
+
+-- ---- one more task
 
 before-same : (prio : List ℕ) (a : ℕ) → before prio a a ≡ a
 unfolding before
@@ -90,77 +168,11 @@ unfolding best
 best-append prio b [] y = refl
 best-append prio b (x ∷ xs) y = best-append prio (before prio b x) xs y
 
-module _ (s : Setup) (h n : ℕ) (q : List ℕ) (r : ℕ) (H : Heads s h n q r) where
-  pub heads-inside : r ≤ n - 1
-  heads-inside =
-      tested (isPriority s)
-      (λ e. H .priority e .inside)
-      (λ e.
-      tested (ltb h n)
-      (λ f. rw (H .robin e, f) (omega (arith, ltb-true h n f)))
-      (λ f. rw (H .robin e, f) zero-le))
-
-  pub heads-serves : 0 < n → n ≤ length q → at q r ≡ chosen s (queueAt s r n q)
-  heads-serves p l =
-      tested (isPriority s)
-      (λ e. H .priority e .first ∙ sym (ap (chosen s) (queueAt-priority s r n q e) ∙ chosen-best s n q e p l))
-      (λ e. sym (chosen-robin s r n q e (omega (arith, heads-inside)) l))
-
--- a head at which the chosen task stands
-pub serves-heads : (s : Setup) (h n : ℕ) (q : List ℕ) → h ≤ n - 1 → n ≤ length q
-    → (0 < n → at q h ≡ chosen s (queueAt s h n q)) → Heads s h n q h
+-- of it and the best of the others, the one that goes first
+pub best-more : {prio q : List ℕ} {h n r : ℕ} → Best prio n q h → n < length q → r ≤ n
+    → before prio (at q h) (at q n) ≡ at q r → Best prio (n + 1) q r
 unfolding best
-serves-heads s h zero q b l c =
-    let z : h ≡ 0 = omega arith in
-    record {
-      robin = λ e. rw z;
-      priority = λ e. record { inside = b; first = rw z };
-    }
-serves-heads s h (suc n) q b l c =
-    record {
-      robin = λ e. sym (cond-true h 0 (lt-ltb h (suc n) (omega arith)));
-      priority = λ e.
-          record {
-            inside = b;
-            first =
-                c (omega arith)
-                ∙ ap (chosen s) (queueAt-priority s h (suc n) q e)
-                ∙ chosen-best s (suc n) q e (omega arith) l;
-          };
-    }
-
--- what stands behind the queue does not matter
-pub heads-set : (s : Setup) (h n : ℕ) (q : List ℕ) (k : ℕ) → Heads s h n q h → Heads s h n (set q n k) h
-unfolding best
-heads-set s h zero q k H =
-    let z : h ≡ 0 = omega (arith, heads-inside s h zero q h H) in
-    record {
-      robin = H .robin;
-      priority = λ e. record { inside = H .priority e .inside; first = rw z };
-    }
-heads-set s h (suc n) q k H =
-    let b : h ≤ suc n - 1 = heads-inside s h (suc n) q h H in
-    let o : at (set q (suc n) k) h ≡ at q h = at-set-other q (suc n) k h (λ e. omega arith) in
-    let z : at (set q (suc n) k) 0 ≡ at q 0 = at-set-other q (suc n) k 0 (λ e. omega arith) in
-    record {
-      robin = H .robin;
-      priority = λ e.
-          record {
-            inside = b;
-            first =
-                o
-                ∙ H .priority e .first
-                ∙ ap (λ (x : ℕ). best (s .priority) x (drop 1 (take (suc n) q))) (sym z)
-                ∙ ap (λ (x : List ℕ). best (s .priority) (at (set q (suc n) k) 0) (drop 1 x))
-                (sym (take-set-le (suc n) q (suc n) k (omega arith)));
-          };
-    }
-
--- one more task: of it and the best of the others, the one that goes first
-pub best-more : (prio q : List ℕ) (h n r : ℕ) → n < length q → r ≤ n → before prio (at q h) (at q n) ≡ at q r
-    → Best prio n q h → Best prio (n + 1) q r
-unfolding best
-best-more prio q h n r l i e B =
+best-more {prio} {q} {n = n} B l i e =
     record {
       inside = omega arith;
       first = sym e ∙ ap (λ (k : ℕ). before prio k (at q n)) (B .first) ∙ more q n l;

@@ -14,10 +14,10 @@ use lib.Seq.{set-at}
 use lib.Seq.{slice-cons, length-slice, paste, paste-zero, length-paste, take-paste, drop-paste}
 use lib.Dec.{eqb, ltb}
 use borrow.Author.Tests.{eqb-true, ltb-false}
-use Rattle.lists.specs.Lists.{at, times}
+use Rattle.lists.specs.Lists.{at, Below, times}
 use Rattle.lists.proofs.Testing.{tested, cond-true, cond-false}
 use Rattle.lists.proofs.Counting.{times-append}
-use Rattle.lists.proofs.Places.{drop-take, paste-next, length-zero, Below, below-append, below-take, below-drop}
+use Rattle.lists.proofs.Places.{drop-take, paste-next, length-zero, below-append, below-take, below-drop}
 use Rattle.rule.specs.Tick.{headBack}
 use Rattle.line.specs.Places.{ring, takenOut}
 
@@ -29,9 +29,9 @@ around h l = drop h l ++ take h l
 around-all : (h : ℕ) (l : List ℕ) → length l ≡ h → around h l ≡ l
 around-all h l e = rw (sym e) (ap (λ (x : List ℕ). x ++ take (length l) l) (drop-length l) ∙ take-length l)
 
-around-next : (h : ℕ) (l : List ℕ) → h < length l → headBack (around h l) ≡ around (suc h) l
+headBack-around : (h : ℕ) (l : List ℕ) → h < length l → headBack (around h l) ≡ around (suc h) l
 unfolding headBack
-around-next h l b =
+headBack-around h l b =
     ap (λ (x : List ℕ). headBack (x ++ take h l)) (drop-cons l h 0 b)
     ∙ append-assoc (drop (suc h) l) (take h l) (at l h ∷ [])
     ∙ ap (λ (x : List ℕ). drop (suc h) l ++ x) (sym (take-suc l h 0 b))
@@ -39,14 +39,14 @@ around-next h l b =
 pub ring-zero : (n : ℕ) (q : List ℕ) → ring 0 n q ≡ take n q
 ring-zero n q = append-nil (take n q)
 
-pub ring-length : (h n : ℕ) (q : List ℕ) → n ≤ length q → length (ring h n q) ≡ n
-ring-length h n q b =
+pub length-ring : (h n : ℕ) (q : List ℕ) → n ≤ length q → length (ring h n q) ≡ n
+length-ring h n q b =
     let l = take n q in
     let e : length (take h l ++ drop h l) ≡ length l = ap length (take-append-drop h l) in
     omega (arith, length-append (drop h l) (take h l), length-append (take h l) (drop h l), length-take-le n q b)
 
-pub ring-times : (k h n : ℕ) (q : List ℕ) → times k (ring h n q) ≡ times k (take n q)
-ring-times k h n q =
+pub times-ring : (k h n : ℕ) (q : List ℕ) → times k (ring h n q) ≡ times k (take n q)
+times-ring k h n q =
     let l = take n q in
     let e : times k (take h l ++ drop h l) ≡ times k l = ap (times k) (take-append-drop h l) in
     omega (arith, times-append k (drop h l) (take h l), times-append k (take h l) (drop h l))
@@ -56,11 +56,11 @@ pub ring-head : (h n : ℕ) (q : List ℕ) → h < n → n ≤ length q
 ring-head h n q b l = ap (λ (x : List ℕ). x ++ take h (take n q)) (slice-cons h n q 0 b l)
 
 -- a turn of the queue is a step of the ring's head
-pub ring-next : (h n : ℕ) (q : List ℕ) → h < n → n ≤ length q
+pub headBack-ring : (h n : ℕ) (q : List ℕ) → h < n → n ≤ length q
     → headBack (ring h n q) ≡ ring (cond (eqb (h + 1) n) 0 (h + 1)) n q
-ring-next h n q b l =
+headBack-ring h n q b l =
     let m : length (take n q) ≡ n = length-take-le n q l in
-    around-next h (take n q) (omega arith)
+    headBack-around h (take n q) (omega arith)
     ∙ tested (eqb (h + 1) n)
     (λ e.
     around-all (suc h) (take n q) (m ∙ sym (eqb-true (h + 1) n e) ∙ add-one h)
@@ -74,9 +74,9 @@ pub straight-zero : (n : ℕ) (q : List ℕ) → q ≡ ring 0 n q ++ drop n q
 straight-zero n q = sym (ap (λ (x : List ℕ). x ++ drop n q) (ring-zero n q) ∙ take-append-drop n q)
 
 -- by two copies
-pub straight-paste : (h n : ℕ) (q : List ℕ) → h ≤ n → n ≤ length q
+pub paste-straight : (h n : ℕ) (q : List ℕ) → h ≤ n → n ≤ length q
     → paste (paste q 0 (drop h q) (n - h)) (n - h) (drop 0 q) h ≡ ring h n q ++ drop n q
-straight-paste h n q b l =
+paste-straight h n q b l =
     let m = n - h in
     let part = paste q 0 (drop h q) m in
     let z : 0 + m ≡ m = omega arith in
@@ -105,8 +105,8 @@ clear-set n k q b z =
 
 -- ---- a task taken out
 
-pub takenOut-below : (m h : ℕ) (q : List ℕ) → Below m q → Below m (takenOut h q)
-takenOut-below m h q b =
+pub below-takenOut : (m h : ℕ) (q : List ℕ) → Below m q → Below m (takenOut h q)
+below-takenOut m h q b =
     below-append m (take h q) (drop (h + 1) q ++ 0 ∷ []) (below-take m h q b)
     (below-append m (drop (h + 1) q) (0 ∷ []) (below-drop m (h + 1) q b) zeros)
   where
@@ -114,8 +114,8 @@ takenOut-below m h q b =
     zeros zero = omega (arith, b 0)
     zeros (suc k) = omega (arith, b 0)
 
-pub takenOut-length : (h : ℕ) (q : List ℕ) → h < length q → length (takenOut h q) ≡ length q
-takenOut-length h q b =
+pub length-takenOut : (h : ℕ) (q : List ℕ) → h < length q → length (takenOut h q) ≡ length q
+length-takenOut h q b =
     omega (
       arith,
       length-append (take h q) (drop (h + 1) q ++ 0 ∷ []),
@@ -135,19 +135,19 @@ clear-behind q n z =
     ∙ sym (replicate-append-replicate (32 - n) 1 0)
     ∙ ap (λ (y : List ℕ). y ++ 0 ∷ []) (sym z)
 
-module _ (h : ℕ) (q : List ℕ) (b : h < 32) (w : length q ≡ 32) where
+module _ {h : ℕ} (b : h < 32) (q : List ℕ) (w : length q ≡ 32) where
   pub movedUp-start : MovedUp h q h q
   movedUp-start =
       let z : 0 ≡ h - h = omega arith in
       paste-zero q h (drop (h + 1) q) ∙ ap (λ (j : ℕ). paste q h (drop (h + 1) q) j) z
 
-  pub movedUp-length : (k : ℕ) (x : List ℕ) → h ≤ k → k < 32 → MovedUp h q k x → length x ≡ 32
-  movedUp-length k x a l e =
+  pub movedUp-length : {k : ℕ} {x : List ℕ} → h ≤ k → k < 32 → MovedUp h q k x → length x ≡ 32
+  movedUp-length {k} a l e =
       ap length e ∙ length-paste q h (drop (h + 1) q) (k - h) (omega arith) (simp length-drop (omega arith)) ∙ w
 
-  pub movedUp-step : (k : ℕ) (x : List ℕ) → h ≤ k → k < 31 → MovedUp h q k x
+  pub movedUp-step : {k : ℕ} {x : List ℕ} → h ≤ k → k < 31 → MovedUp h q k x
       → MovedUp h q (k + 1) (set x k (at x (k + 1)))
-  movedUp-step k x a l e =
+  movedUp-step {k} {x} a l e =
       let j = k - h in
       let t = drop (h + 1) q in
       let f : h + j ≡ k = omega arith in
@@ -168,9 +168,9 @@ module _ (h : ℕ) (q : List ℕ) (b : h < 32) (w : length q ≡ 32) where
       ∙ ap (λ (y : ℕ). paste q h t y) i
 
   -- the last place is cleared, as those behind the n tasks are
-  pub movedUp-end : (n k : ℕ) (x : List ℕ) → h < n → n ≤ 32 → drop n q ≡ replicate (32 - n) 0 → k ≡ n - 1
+  pub movedUp-end : {n k : ℕ} {x : List ℕ} → h < n → n ≤ 32 → drop n q ≡ replicate (32 - n) 0 → k ≡ n - 1
       → MovedUp h q k x → set x (n - 1) 0 ≡ takenOut h q
-  movedUp-end n k x a l z i e =
+  movedUp-end {n} {k} a l z i e =
       let m = n - 1 - h in
       let t = drop (h + 1) q in
       let p = take h q ++ take m t in

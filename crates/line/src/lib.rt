@@ -52,10 +52,10 @@ pub fn take_out(queue: &mut [u8; 32], place: usize, n: usize)
 }
 
 // Of two tasks, whether the second goes before the first, which has no greater priority.
-fn overtakes(task: u8, top: u8, other: u8, p: u8) -> bool
-    ensures { λ r. ⌜ r ≡ cond (ltb top p) true (ltb other task) ⌝ }
+fn overtakes(task: u8, top: u8, other: u8, rank: u8) -> bool
+    ensures { λ r. ⌜ r ≡ cond (ltb top rank) true (ltb other task) ⌝ }
 {
-    if top < p {
+    if top < rank {
         return true;
     }
     other < task
@@ -74,13 +74,13 @@ fn best_place(priority: &[u8; 32], n: usize, queue: &[u8; 32]) -> usize
     let mut k: usize = 1;
     while k < n {
         let other = queue[k];
-        let p = priority[other as usize];
+        let rank = priority[other as usize];
         // Most of the others have a smaller priority. Judged first and apart, such a place takes half the instructions.
-        if top <= p {
-            if overtakes(task, top, other, p) {
+        if top <= rank {
+            if overtakes(task, top, other, rank) {
                 place = k;
                 task = other;
-                top = p;
+                top = rank;
             }
         }
         k += 1;
@@ -89,39 +89,39 @@ fn best_place(priority: &[u8; 32], n: usize, queue: &[u8; 32]) -> usize
 }
 
 // The head of n tasks, where it was at a place before.
-pub fn head_of(s: Setup, place: usize, n: usize, queue: &[u8; 32]) -> usize
+pub fn head_of(p: Setup, place: usize, n: usize, queue: &[u8; 32]) -> usize
     requires { ⌜ length (now queue) ≡ 32 ⌝ }
     requires { ⌜ Tasks (now queue) ⌝ }
     requires { ⌜ n ≤ 32 ⌝ }
-    ensures { λ r. ⌜ Heads s place n (now (queue .entry)) r ⌝ }
+    ensures { λ r. ⌜ Heads p place n (now (queue .entry)) r ⌝ }
 {
-    if s.policy == 1 {
-        let p = s.priority;
-        return best_place(&p, n, queue);
+    if p.policy == 1 {
+        let priority = p.priority;
+        return best_place(&priority, n, queue);
     }
     if place < n { place } else { 0 }
 }
 
 // The head of n tasks and one more, which has just joined behind them: only the two are compared.
-pub fn head_with(s: Setup, place: usize, n: usize, queue: &[u8; 32]) -> usize
+pub fn head_with(p: Setup, place: usize, n: usize, queue: &[u8; 32]) -> usize
     requires { ⌜ length (now queue) ≡ 32 ⌝ }
     requires { ⌜ Tasks (now queue) ⌝ }
     requires { ⌜ n < 32 ⌝ }
-    requires { ⌜ Heads s place n (now queue) place ⌝ }
-    ensures { λ r. ⌜ Heads s place (n + 1) (now (queue .entry)) r ⌝ }
+    requires { ⌜ Heads p place n (now queue) place ⌝ }
+    ensures { λ r. ⌜ Heads p place (n + 1) (now (queue .entry)) r ⌝ }
 {
-    if s.policy != 1 {
+    if p.policy != 1 {
         return place;
     }
-    let priority = s.priority;
+    let priority = p.priority;
     let task = queue[place];
     let other = queue[n];
     let top = priority[task as usize];
-    let p = priority[other as usize];
-    if p < top {
+    let rank = priority[other as usize];
+    if rank < top {
         return place;
     }
-    if overtakes(task, top, other, p) {
+    if overtakes(task, top, other, rank) {
         n
     } else {
         place

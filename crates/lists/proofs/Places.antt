@@ -9,7 +9,7 @@ use mathlib.Core.List.{List, [], _∷_, _++_}
 use lib.ListN.{length, set, take, drop, length-drop}
 use lib.Seq.{take-nil, getD-drop, paste, paste-suc}
 use borrow.Author.Tests.{ne-eqb}
-use Rattle.lists.specs.Lists.{at, times, without}
+use Rattle.lists.specs.Lists.{at, Below, times, without}
 use Rattle.lists.proofs.Testing.{equal-or, eqb-same}
 use Rattle.lists.proofs.Counting.{same-refl, same-equal, same-other, times-at}
 use Rattle.lists.proofs.Totals.{at-set-same, at-set-other}
@@ -38,9 +38,6 @@ paste-next into q a from k h g =
     ∙ ap (λ (j : ℕ). paste into a (drop from q) j) (sym (add-one k))
 
 -- ---- entries below a number
-
-abbrev pub Below : ℕ → List ℕ → Type 0
-Below m xs = (k : ℕ) → at xs k < m
 
 pub below-append : (m : ℕ) (xs ys : List ℕ) → Below m xs → Below m ys → Below m (xs ++ ys)
 below-append m [] ys h g k = g k

@@ -1,6 +1,6 @@
 -- Words for numbers and lists of numbers that the definitions above use. They name no task and no policy.
 -- Assumes nothing.
-use Prim.Native.Nat.{ℕ, _+_}
+use Prim.Native.Nat.{ℕ, _+_, _<_}
 use mathlib.Core.Bool.{Bool, true, cond, _&&_}
 use mathlib.Core.List.{List, [], _∷_}
 use lib.ListN.{getD}
@@ -13,6 +13,10 @@ within low high n = leb low n && leb n high
 -- entry i of a list, 0 past its end
 abbrev pub at : List ℕ → ℕ → ℕ
 at l i = getD l i 0
+
+-- every entry is below m
+abbrev pub Below : ℕ → List ℕ → Type 0
+Below m l = (i : ℕ) → at l i < m
 
 -- the sum of a list
 unfoldable pub total : List ℕ → ℕ

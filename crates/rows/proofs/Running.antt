@@ -4,11 +4,10 @@ use Prim.Native.Nat.{ℕ, _+_, _≤_, _<_, zero-le}
 use native.Mathlib.Omega.{arith}
 use native.Mathlib.Nat.{not-suc-le-zero}
 use mathlib.Core.Path.{_≡_, refl, sym, ap, _∙_, subst}
-use mathlib.Core.List.{List, []}
+use mathlib.Core.List.{List}
 use lib.ListN.{length, set, replicate}
 use Rattle.lists.specs.Lists.{at, total}
-use Rattle.lists.proofs.Testing.{cond-same}
-use Rattle.rule.specs.Setups.{setupRefusal, isPriority}
+use Rattle.rule.specs.Setups.{setupRefusal}
 use Rattle.rule.specs.State.{State, fresh}
 use Rattle.rule.specs.Calls.{lastTime, drained, opened, Call, request, refusal, effect, call}
 use Rattle.rule.specs.Table.{refused, finished, completions, rows}
@@ -19,9 +18,9 @@ use Rattle.laws.proofs.Ticks.{moved-clock}
 use Rattle.laws.proofs.Refusals.{request-accepted, accepted-acts}
 use Rattle.laws.proofs.Made.{fresh-sound}
 use Rattle.laws.proofs.Drain.{owed-limit}
-use Rattle.line.specs.Places.{queueAt}
+use Rattle.line.proofs.Queues.{queueAt-zero}
 use Rattle.legs.specs.Parts as legs
-use Rattle.legs.specs.Parts.{parts}
+use Rattle.legs.specs.Parts.{withQueue, parts}
 use Rattle.legs.specs.declared.Cursor.{Cursor}
 use Rattle.engine.specs.Promises.{Asks, Reached}
 use Rattle.engine.specs.declared.Asked.{Asked}
@@ -39,18 +38,7 @@ abbrev zeros32 : List ℕ
 zeros32 = replicate 32 0
 
 begun-parts : (p : Setup) → parts p begun zeros32 zeros32 zeros32 zeros32 ≡ fresh p
-unfolding queueAt
-begun-parts p =
-    ap (λ (q : List ℕ). record {
-      setup = p;
-      clock = 0;
-      idle = 0;
-      used = 0;
-      queue = q;
-      owed = zeros32;
-      given = zeros32;
-      done = zeros32;
-    }) (cond-same (isPriority p) [])
+begun-parts p = ap (λ (q : List ℕ). withQueue p begun q zeros32 zeros32 zeros32) (queueAt-zero p 0 zeros32)
 
 begun-kept : (p : Setup) → legs.Kept p begun zeros32
 begun-kept p =

@@ -1,5 +1,5 @@
-// A step of the clock on a run taken apart: idle ticks, or a row of ticks to one task. In order: what a row of ticks
-// gives, the cursor after its last, the step.
+// A step of the clock on a run taken apart: idle ticks, or a leg. In order: what a leg gives, the cursor after the last
+// ticks of a task, the step.
 use legs::Cursor;
 use legs::Leg;
 use rule::Setup;
@@ -7,10 +7,11 @@ ghost use mathlib.Core.Path.{_≡_};
 ghost use Prim.Native.Nat.{_+_, _≤_, _<_, _^_};
 ghost use Rattle.lists.specs.Lists.{at};
 ghost use Rattle.laws.specs.Sound.{Sound};
+ghost use Rattle.laws.specs.Drains.{lastClock};
 ghost use Rattle.line.specs.Places.{Tasks};
 ghost use Rattle.legs.specs.Parts.{parts, Kept};
-ghost use Rattle.legs.specs.Inner.{owedAfter, givenAfter};
-ghost use Rattle.steps.specs.Inner.{Finished, Stepped};
+ghost use Rattle.legs.specs.Legs.{owedAfter, givenAfter};
+ghost use Rattle.steps.specs.Steps.{Finished, Stepped};
 
 // The task gets its ticks.
 fn given_to(leg: Leg, owed: &mut [u32; 32], given: &mut [u32; 32])
@@ -29,7 +30,7 @@ fn given_to(leg: Leg, owed: &mut [u32; 32], given: &mut [u32; 32])
 
 // After the last n ticks that the task at the head is owed: it leaves the queue.
 fn finished(
-    s: Setup,
+    p: Setup,
     c: Cursor,
     task: u8,
     n: u32,
@@ -37,11 +38,11 @@ fn finished(
     done: &mut [u32; 32],
 ) -> Cursor
     requires { ⌜ c .clock + n < 2 ^ 32 ⌝ }
-    requires { ⌜ Kept s c (now queue) ⌝ }
+    requires { ⌜ Kept p c (now queue) ⌝ }
     requires { ⌜ 0 < c .queued ⌝ }
     requires { ⌜ Tasks (now queue) ⌝ }
     requires { ⌜ task < 32 ⌝ }
-    ensures { λ r. ⌜ Finished s c task n (now (queue .entry)) (now (done .entry)) r
+    ensures { λ r. ⌜ Finished p c task n (now (queue .entry)) (now (done .entry)) r
         (now (queue .exit)) (now (done .exit)) ⌝ }
 {
     let i = task as usize;
@@ -49,7 +50,7 @@ fn finished(
     done[i] = clock;
     let left = c.queued - 1;
     line::take_out(queue, c.head, c.queued);
-    let head = line::head_of(s, c.head, left, queue);
+    let head = line::head_of(p, c.head, left, queue);
     Cursor {
         clock,
         idle: c.idle,
@@ -59,9 +60,9 @@ fn finished(
     }
 }
 
-// The next row of ticks is given.
+// The next leg is given.
 fn give_leg(
-    s: Setup,
+    p: Setup,
     c: Cursor,
     limit: u32,
     queue: &mut [u8; 32],
@@ -69,27 +70,27 @@ fn give_leg(
     given: &mut [u32; 32],
     done: &mut [u32; 32],
 ) -> Cursor
-    requires { ⌜ Kept s c (now queue) ⌝ }
-    requires { ⌜ Sound (parts s c (now queue) (now owed) (now given) (now done)) ⌝ }
+    requires { ⌜ Kept p c (now queue) ⌝ }
+    requires { ⌜ Sound (parts p c (now queue) (now owed) (now given) (now done)) ⌝ }
     requires { ⌜ 0 < limit ⌝ }
-    requires { ⌜ c .clock + limit ≤ 4_032_000_000 ⌝ }
+    requires { ⌜ c .clock + limit ≤ lastClock ⌝ }
     requires { ⌜ 0 < c .queued ⌝ }
-    ensures { λ r. ⌜ Stepped s r (now (queue .exit)) limit
-        (parts s c (now (queue .entry)) (now (owed .entry)) (now (given .entry)) (now (done .entry)))
-        (parts s r (now (queue .exit)) (now (owed .exit)) (now (given .exit)) (now (done .exit))) ⌝ }
+    ensures { λ r. ⌜ Stepped p r (now (queue .exit)) limit
+        (parts p c (now (queue .entry)) (now (owed .entry)) (now (given .entry)) (now (done .entry)))
+        (parts p r (now (queue .exit)) (now (owed .exit)) (now (given .exit)) (now (done .exit))) ⌝ }
 {
-    let leg = legs::next_leg(s, c, limit, queue, owed);
+    let leg = legs::next_leg(p, c, limit, queue, owed);
     given_to(leg, owed, given);
     let ready = leg.cursor;
     if leg.owed == leg.n {
-        return finished(s, ready, leg.task, leg.n, queue, done);
+        return finished(p, ready, leg.task, leg.n, queue, done);
     }
-    legs::served(s, ready, leg.n)
+    legs::served(p, ready, leg.n)
 }
 
-// Some ticks later, at least one and at most limit: idle ones, or a row of ticks to one task.
+// Ticks as far as the limit where nothing is open, and else the next leg.
 pub fn step(
-    s: Setup,
+    p: Setup,
     c: Cursor,
     limit: u32,
     queue: &mut [u8; 32],
@@ -97,29 +98,29 @@ pub fn step(
     given: &mut [u32; 32],
     done: &mut [u32; 32],
 ) -> Cursor
-    requires { ⌜ Kept s c (now queue) ⌝ }
-    requires { ⌜ Sound (parts s c (now queue) (now owed) (now given) (now done)) ⌝ }
+    requires { ⌜ Kept p c (now queue) ⌝ }
+    requires { ⌜ Sound (parts p c (now queue) (now owed) (now given) (now done)) ⌝ }
     requires { ⌜ 0 < limit ⌝ }
-    requires { ⌜ c .clock + limit ≤ 4_032_000_000 ⌝ }
-    ensures { λ r. ⌜ Stepped s r (now (queue .exit)) limit
-        (parts s c (now (queue .entry)) (now (owed .entry)) (now (given .entry)) (now (done .entry)))
-        (parts s r (now (queue .exit)) (now (owed .exit)) (now (given .exit)) (now (done .exit))) ⌝ }
+    requires { ⌜ c .clock + limit ≤ lastClock ⌝ }
+    ensures { λ r. ⌜ Stepped p r (now (queue .exit)) limit
+        (parts p c (now (queue .entry)) (now (owed .entry)) (now (given .entry)) (now (done .entry)))
+        (parts p r (now (queue .exit)) (now (owed .exit)) (now (given .exit)) (now (done .exit))) ⌝ }
 {
     if c.queued == 0 {
         return legs::rested(c, limit);
     }
     // With a branch of its own priority has no turn to look for: a step takes 22 instructions and not 55.
-    if s.policy == 1 {
-        return give_leg(s, c, limit, queue, owed, given, done);
+    if p.policy == 1 {
+        return give_leg(p, c, limit, queue, owed, given, done);
     }
     // Nearly all steps under round robin give a whole slice to a task that is owed more. Judged first and apart, such a
     // step takes 36 instructions and not 49.
-    if legs::slice_due(s, c, limit) {
-        let leg = legs::next_leg(s, c, s.slice, queue, owed);
+    if legs::slice_due(p, c, limit) {
+        let leg = legs::next_leg(p, c, p.slice, queue, owed);
         if leg.n < leg.owed {
             given_to(leg, owed, given);
-            return legs::served(s, leg.cursor, leg.n);
+            return legs::served(p, leg.cursor, leg.n);
         }
     }
-    give_leg(s, c, limit, queue, owed, given, done)
+    give_leg(p, c, limit, queue, owed, given, done)
 }

@@ -12,21 +12,24 @@ use Rattle.engine.proofs.Requests.{asks-early, asks-open, asks-room, as
 use Rattle.engine.proofs.ask.Statement.{statement}
 use Rattle.engine.proofs.ask.Tie as tie
 
--- the place past the refusals by 10 to 13, and what is known there
+-- the place past the refusals by 10 to 13, the start, and what is known there
 abbrev past : tie.After-walk → tie.Else1
 past c = c .before .before .before .before .before
 
+abbrev start : tie.After-walk → tie.Start
+start c = past c .before .before
+
 sound : (c : tie.After-walk)
-    → let a = past c .before .before .args in
-    Sound (parts (a .s) (a .c) (a .queue .now) (a .owed .now) (a .given .now) (a .done .now))
-sound c = past c .before .before .pre .1
+    → let a = start c .args in
+    Sound (parts (a .p) (a .c) (a .queue .now) (a .owed .now) (a .given .now) (a .done .now))
+sound c = start c .pre .1
 
 early : (c : tie.Else1)
-    → let a = c .before .before .args in earlyRefusal (a .s .count) (a .c .clock) (a .time) (a .task) (a .amount) ≡ 0
+    → let a = c .before .before .args in earlyRefusal (a .p .count) (a .c .clock) (a .time) (a .task) (a .amount) ≡ 0
 early c = sym (c .before .early-refusal .ensures) ∙ c .if1 .left
 
 passed : (c : tie.Else1)
-    → let a = c .before .before .args in Passed (a .s .count) (a .c .clock) (a .time) (a .task)
+    → let a = c .before .before .args in Passed (a .p .count) (a .c .clock) (a .time) (a .task)
 passed c = early-passed _ _ _ _ _ (early c)
 
 known : (c : tie.Else1) → c .before .before .args .task < 32
@@ -35,7 +38,7 @@ known c = omega (arith, passed c .task, c .before .before .pre .1 .few)
 returns : tie.Need-returns
 returns c =
     let s = c .before .before in
-    asks-early _ (s .args .c) _ _ _ _ _ _ (s .pre .0) (s .pre .1) (c .before .early-refusal .ensures) (c .if1 .taken)
+    asks-early (s .pre .0) (s .pre .1) (c .before .early-refusal .ensures) (c .if1 .taken)
 
 walk-requires : tie.Need-walk-requires
 walk-requires c κs =
@@ -49,7 +52,8 @@ element-copy-out-o c = known (past c)
 returns-2 : tie.Need-returns-2
 returns-2 c =
     let w = c .before .before in
-    asks-open _ _ _ _ _ (sound w) (early (past w)) _ _ _ _ _ (w .walk .ensures) (c .if2 .taken)
+    let a = start w .args in
+    asks-open (a .time) (a .task) (a .amount) (sound w) (early (past w)) (w .walk .ensures) (c .if2 .taken)
 
 cast-joined : tie.Need-cast-joined
 cast-joined c = omega (arith, known (past (c .before .before)))
@@ -57,19 +61,22 @@ cast-joined c = omega (arith, known (past (c .before .before)))
 joined-requires : tie.Need-joined-requires
 joined-requires c κs =
     let w = c .before .before .before .before in
-    let r = w .walk .ensures in (
+    let a = start w .args in
+    let r = w .walk .ensures in
+    let z = c .before .before .if2 .left in (
       r .kept,
       (
-        asks-room _ _ _ _ _ (sound w) (early (past w)) _ _ _ _ _ r (omega (arith, c .before .before .if2 .left)),
-        (kept-tasks _ _ _ _ _ _ (r .kept) (r .sound), known (past w)),
+        asks-room (a .time) (a .task) (a .amount) (sound w) (early (past w)) r (omega (arith, z)),
+        (kept-tasks (r .kept) (r .sound), known (past w)),
       ),
     )
 
 returns-3 : tie.Need-returns-3
 returns-3 c =
     let w = c .before .before .before .before .before in
+    let a = start w .args in
     let z = c .before .before .before .if2 .left in
-    asks-taken _ _ _ _ _ (sound w) (early (past w)) _ _ _ _ _ (w .walk .ensures) (omega (arith, z)) _ _ _
+    asks-taken (a .time) (a .task) (a .amount) (sound w) (early (past w)) (w .walk .ensures) (omega (arith, z))
     (c .joined .ensures)
 
 pub ask-spec : {M : Type 1} → statement M

@@ -19,7 +19,7 @@ returns : tie.Need-returns
 returns c =
     let a = c .before .before .before .before .before .before .before .before .args in
     let t = c .before .before .before .before .before .before .total-of .ensures in
-    let st = parts (a .s) (a .c) (a .queue .now) (a .owed .now) (a .given .now) (a .done .now) in
+    let st = parts (a .p) (a .c) (a .queue .now) (a .owed .now) (a .given .now) (a .done .now) in
     let w = c .walk .ensures in
     record {
       kept = w .kept;

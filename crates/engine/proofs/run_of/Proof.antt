@@ -2,7 +2,7 @@
 use native.Mathlib.Omega.{arith}
 use mathlib.Core.Path.{ap}
 use borrow.Author.Needs.{needs}
-use Rattle.engine.specs.Inner.{straightTo}
+use Rattle.engine.specs.Joining.{straightTo}
 use Rattle.legs.specs.declared.Cursor.{Cursor}
 use Rattle.engine.proofs.Assembly.{together}
 use Rattle.engine.proofs.run_of.Statement.{statement}
@@ -19,9 +19,7 @@ returns : tie.Need-returns
 returns c =
     let s = c .before .before .before .before .before .before .before in
     let w = c .before .straightened in
-    let a = s .args in
-    together (a .s) (a .c) (a .queue .now) _ (a .owed .now) (a .given .now) (a .done .now)
-    (w .result) (s .pre .0) (w .ensures .0) (w .ensures .1)
+    together (s .pre .0) (w .ensures .0) (w .ensures .1)
 
 pub run-of-spec : {M : Type 1} → statement M
 run-of-spec = tie.close (tie.spec (λ c κs. search needs) cast-t14 returns)

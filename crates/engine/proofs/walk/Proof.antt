@@ -2,23 +2,19 @@
 use Prim.Native.Nat.{_-_}
 use native.Mathlib.Omega.{arith}
 use Rattle.legs.specs.Parts.{parts}
-use Rattle.engine.proofs.Walks.{Going, going-start, going-step, going-end}
+use Rattle.engine.proofs.Walks.{Walking, walking-start, walking-step, walking-less, walking-end}
 use Rattle.engine.proofs.walk.Statement.{statement}
 use Rattle.engine.proofs.walk.Tie as tie
 
 abbrev Inv-loop : tie.InvT-loop
-Inv-loop s time queue₀ owed₀ given₀ done₀ c₀ queue owed given done c =
-    Going time s (parts s c₀ queue₀ owed₀ given₀ done₀) c queue (parts s c queue owed given done)
+Inv-loop p time queue₀ owed₀ given₀ done₀ c₀ queue owed given done c =
+    Walking time p (parts p c₀ queue₀ owed₀ given₀ done₀) c queue (parts p c queue owed given done)
 
 abbrev μ-loop : tie.MeasureT-loop
-μ-loop s time queue₀ owed₀ given₀ done₀ c₀ queue owed given done c = time - c .clock
+μ-loop p time queue₀ owed₀ given₀ done₀ c₀ queue owed given done c = time - c .clock
 
 loop-holds : tie.Need-loop-holds Inv-loop μ-loop
-loop-holds c =
-    let a = c .args in
-    let st = parts (a .s) (a .from) (a .queue .now) (a .owed .now) (a .given .now) (a .done .now) in
-    going-start (a .time) (a .s) st (a .from)
-    (a .queue .now) (c .pre .0) (c .pre .1 .0) (c .pre .1 .1 .0)
+loop-holds c = walking-start (c .pre .0) (c .pre .1 .0) (c .pre .1 .1 .0)
 
 sub-step : tie.Need-sub-step Inv-loop μ-loop
 sub-step c = omega (arith, c .before .if1 .taken)
@@ -32,21 +28,16 @@ step-requires c κs =
 
 loop-less : tie.Need-loop-less Inv-loop μ-loop
 loop-less c =
-    omega (
-      arith,
-      c .step .ensures .later,
-      c .step .ensures .soon,
-      c .before .before .before .before .before .before .if1 .taken,
-    )
+    let i = c .before .before .before .before .before .before .before .before .loop .inv in
+    walking-less i (c .before .before .before .before .before .before .if1 .taken) (c .step .ensures)
 
 loop-again : tie.Need-loop-again Inv-loop μ-loop
 loop-again c =
-    let i = c .before .before .before .before .before .before .before .before .loop in
-    going-step _ _ _ (i .c) (i .queue) _ (i .inv) _ _ _ (c .before .before .before .before .before .before .if1 .taken)
-    (c .step .ensures)
+    let i = c .before .before .before .before .before .before .before .before .loop .inv in
+    walking-step i (c .before .before .before .before .before .before .if1 .taken) (c .step .ensures)
 
 returns : tie.Need-returns Inv-loop μ-loop
-returns c = going-end _ _ _ _ _ _ (c .before .before .loop .inv) (c .if1 .left)
+returns c = walking-end (c .before .before .loop .inv) (c .if1 .left)
 
 pub walk-spec : {M : Type 1} → statement M
 walk-spec =

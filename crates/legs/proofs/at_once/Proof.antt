@@ -1,36 +1,26 @@
--- The least of what is owed, asked for and left of the slice.
+-- The least of what is owed, the limit and what is left of the slice.
 use native.Mathlib.Omega.{arith}
-use borrow.Author.Tests.{eqb-false, ne-eqb}
+use mathlib.Core.Path.{sym, _∙_}
+use borrow.Author.Tests.{eq-eqb, ne-eqb}
 use borrow.Author.Needs.{needs}
+use Rattle.lists.proofs.Testing.{cond-true, cond-false}
+use Rattle.legs.specs.Legs.{atOnce}
 use Rattle.legs.proofs.at_once.Statement.{statement}
 use Rattle.legs.proofs.at_once.Tie as tie
 
 returns : tie.Need-returns
-returns c =
-    let s = c .before .before .before in
-    let l = c .before .before .least .ensures in
-    record {
-      some = l .2 (s .pre .1 .0) (s .pre .0);
-      asked = l .1;
-      owes = l .0;
-      sliced = λ e. absurd (eqb-false _ 1 e (c .if1 .taken));
-    }
+unfolding atOnce
+returns c = c .before .before .least .ensures ∙ sym (cond-true _ _ (eq-eqb _ 1 (c .if1 .taken)))
 
 sub-least : tie.Need-sub-least
-sub-least c = omega (arith, c .before .before .before .before .pre .1 .1 (ne-eqb _ 1 (c .before .if1 .left)))
+sub-least c = omega (arith, c .before .before .before .before .pre (ne-eqb _ 1 (c .before .if1 .left)))
 
 returns-2 : tie.Need-returns-2
+unfolding atOnce
 returns-2 c =
-    let s = c .before .before .before .before .before in
-    let l = c .before .before .before .before .least .ensures in
-    let m = c .least2 .ensures in
-    let w = s .pre .1 .1 (ne-eqb _ 1 (c .before .before .if1 .left)) in
-    record {
-      some = m .2 (l .2 (s .pre .1 .0) (s .pre .0)) (omega (arith, w));
-      asked = omega (arith, m .0, l .1);
-      owes = omega (arith, m .0, l .0);
-      sliced = λ _. omega (arith, m .1, w);
-    }
+    c .least2 .ensures
+    ∙ rw (c .before .before .before .before .least .ensures)
+    (sym (cond-false _ _ (ne-eqb _ 1 (c .before .before .if1 .left))))
 
 pub at-once-spec : {M : Type 1} → statement M
 at-once-spec = tie.close (tie.spec (λ c κs. search needs) returns sub-least (λ c κs. search needs) returns-2)

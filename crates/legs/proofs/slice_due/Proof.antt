@@ -15,7 +15,7 @@ returns-2 c = simp (ne-eqb _ 1 (c .before .before .before .if1 .left), ne-eqb _ 
 returns-3 : tie.Need-returns-3
 unfolding overdue
 returns-3 c =
-    simp (ne-eqb _ 1 (c .before .before .before .before .if1 .left), eq-eqb _ _ (c .before .if2 .left))
+    rw (ne-eqb _ 1 (c .before .before .before .before .if1 .left), eq-eqb _ _ (c .before .if2 .left))
 
 pub slice-due-spec : {M : Type 1} → statement M
 slice-due-spec = tie.close (tie.spec returns returns-2 returns-3)

@@ -1,14 +1,14 @@
 -- Invariant: the best of the places passed (Heads). Measure: the places left.
-use Prim.Native.Nat.{ℕ, _+_, _-_, _≤_}
+use Prim.Native.Nat.{_-_, _≤_}
 use native.Mathlib.Omega.{arith}
-use mathlib.Core.Path.{_≡_, refl, sym, ap, _∙_}
+use mathlib.Core.Path.{refl, sym, _∙_}
 use mathlib.Core.Bool.{true, false}
 use mathlib.Core.Logic.{⊎-elim}
 use lib.ListN.{length}
 use borrow.Author.Needs.{needs}
 use Rattle.lists.specs.Lists.{at}
 use Rattle.rule.specs.Tick.{before}
-use Rattle.line.proofs.Heads.{Scanned, scanned-step, scanned-end, before-stays, before-overtakes}
+use Rattle.line.proofs.Heads.{Scanned, scanned-step, scanned-stays, scanned-end, before-stays, before-overtakes}
 use Rattle.line.proofs.best_place.Statement.{statement}
 use Rattle.line.proofs.best_place.Tie as tie
 
@@ -27,11 +27,11 @@ element-copy-out-top c = c .before .pre .1 .0 0
 loop-holds : tie.Need-loop-holds Inv-loop μ-loop
 loop-holds c = record { inside = omega arith; stands = refl; ranks = refl; ahead = refl }
 
-cast-p : tie.Need-cast-p Inv-loop μ-loop
-cast-p c = omega (arith, c .before .before .before .before .before .pre .1 .0 (c .before .before .loop .k))
+cast-rank : tie.Need-cast-rank Inv-loop μ-loop
+cast-rank c = omega (arith, c .before .before .before .before .before .pre .1 .0 (c .before .before .loop .k))
 
-element-copy-out-p : tie.Need-element-copy-out-p Inv-loop μ-loop
-element-copy-out-p c = c .before .before .before .before .before .pre .1 .0 (c .before .before .loop .k)
+element-copy-out-rank : tie.Need-element-copy-out-rank Inv-loop μ-loop
+element-copy-out-rank c = c .before .before .before .before .before .pre .1 .0 (c .before .before .loop .k)
 
 loop-again : tie.Need-loop-again Inv-loop μ-loop
 loop-again c =
@@ -41,33 +41,23 @@ loop-again c =
     let prio = s .args .priority .now in
     let l : s .args .n ≤ length q = omega (arith, s .pre .0, s .pre .1 .1) in
     let h = c .before .before .before .loop-test .taken in
-    let on : (j p t r : ℕ) → j ≤ s .args .n - 1 → before prio (i .task) (at q (i .k)) ≡ at q j → p ≡ j → t ≡ at q j
-    → r ≡ at prio (at q j) → Scanned prio (s .args .n) q p t r (i .k + 1) =
-    λ j p t r. scanned-step prio (s .args .n) q (i .place) (i .task) (i .top) (i .k) j p t r h l (i .inv) in
-    let stays : before prio (i .task) (at q (i .k)) ≡ i .task → (p t r : ℕ) → p ≡ i .place → t ≡ i .task → r ≡ i .top
-    → Scanned prio (s .args .n) q p t r (i .k + 1) =
-    λ e p t r ep et er.
-    on (i .place) p t r (i .inv .inside) (e ∙ i .inv .stands) ep (et ∙ i .inv .stands)
-    (er ∙ i .inv .ranks ∙ ap (at prio) (i .inv .stands)) in
-    let second = before-overtakes prio (i .task) (at q (i .k)) (i .top) (at prio (at q (i .k))) (i .inv .ranks) refl in
+    let second = before-overtakes prio (i .task) (at q (i .k)) (i .inv .ranks) refl in
     ⊎-elim
     (λ x.
-    let e = second true (x .0 .taken) (sym (x .2 .taken) ∙ x .1 .ensures) in
-    on (i .k) _ _ _ (omega (arith, h)) e (x .3) (x .4) (x .5))
+    scanned-step (i .inv) l h (omega (arith, h)) (second true (x .0 .taken) (sym (x .2 .taken) ∙ x .1 .ensures))
+    (x .3) (x .4) (x .5))
     (⊎-elim
     (λ x.
-    stays (second false (x .0 .taken) (sym (x .2 .left) ∙ x .1 .ensures)) _ _ _ (x .3) (x .4) (x .5))
+    scanned-stays (i .inv) l h (second false (x .0 .taken) (sym (x .2 .left) ∙ x .1 .ensures)) (x .3) (x .4) (x .5))
     (λ x.
-    stays (before-stays prio (i .task) (at q (i .k)) (i .top) (at prio (at q (i .k))) (i .inv .ranks) refl (x .0 .left))
-    _ _ _ (x .1) (x .2) (x .3)))
+    scanned-stays (i .inv) l h (before-stays prio (i .task) (at q (i .k)) (i .inv .ranks) refl (x .0 .left))
+    (x .1) (x .2) (x .3)))
     (c .if1 .came)
 
 returns : tie.Need-returns Inv-loop μ-loop
 returns c =
     let s = c .before .before .before .before in
-    let i = c .before .loop in
-    scanned-end _ _ (s .args .queue .now) (i .place) (i .task) (i .top) (i .k) (c .loop-test .left)
-    (omega (arith, s .pre .0, s .pre .1 .1)) (i .inv)
+    scanned-end (c .before .loop .inv) (omega (arith, s .pre .0, s .pre .1 .1)) (c .loop-test .left)
 
 pub best-place-spec : {M : Type 1} → statement M
 best-place-spec =
@@ -80,8 +70,8 @@ best-place-spec =
     element-copy-out-top
     loop-holds
     (λ c. search needs)
-    cast-p
-    element-copy-out-p
+    cast-rank
+    element-copy-out-rank
     (λ c κs. search needs)
     (λ c. search needs)
     (λ c. search needs)

@@ -15,7 +15,7 @@ use Rattle.line.proofs.head_with.Tie as tie
 
 -- the head stands among the tasks and the one more
 below : (s : tie.Start) → s .args .place < s .args .n + 1
-below s = omega (arith, heads-inside _ _ _ _ _ (s .pre .1 .1 .1))
+below s = omega (arith, heads-inside (s .pre .1 .1 .1))
 
 -- the places: under priority, with both tasks read
 abbrev start : tie.After-other → tie.Start
@@ -24,15 +24,14 @@ start c = c .before .before .before .before .before
 more : (c : tie.After-other) (r : ℕ)
     → let a = start c .args in
     let q = a .queue .now in
-    r ≤ a .n → before (a .s .priority) (at q (a .place)) (at q (a .n)) ≡ at q r → Heads (a .s) (a .place) (a .n + 1) q r
+    r ≤ a .n → before (a .p .priority) (at q (a .place)) (at q (a .n)) ≡ at q r → Heads (a .p) (a .place) (a .n + 1) q r
 more c r i e =
     let s = start c in
     let a = s .args in
     record {
       robin = λ f. absurd (eqb-false _ 1 f (c .before .before .before .if1 .left));
       priority = λ f.
-          best-more (a .s .priority) (a .queue .now) (a .place) (a .n) r (omega (arith, s .pre .0, s .pre .1 .1 .0)) i e
-          (s .pre .1 .1 .1 .priority f);
+          best-more (s .pre .1 .1 .1 .priority f) (omega (arith, s .pre .0, s .pre .1 .1 .0)) i e;
     }
 
 returns : tie.Need-returns
@@ -51,29 +50,29 @@ cast-top c = let s = start c in omega (arith, s .pre .1 .0 (s .args .place))
 array-read-top : tie.Need-array-read-top
 array-read-top c = let s = start c in s .pre .1 .0 (s .args .place)
 
-cast-p : tie.Need-cast-p
-cast-p c = let s = start c in omega (arith, s .pre .1 .0 (s .args .n))
+cast-rank : tie.Need-cast-rank
+cast-rank c = let s = start c in omega (arith, s .pre .1 .0 (s .args .n))
 
-array-read-p : tie.Need-array-read-p
-array-read-p c = let s = start c in s .pre .1 .0 (s .args .n)
+array-read-rank : tie.Need-array-read-rank
+array-read-rank c = let s = start c in s .pre .1 .0 (s .args .n)
 
 returns-2 : tie.Need-returns-2
 returns-2 c =
     let l = c .before in
-    more l _ (omega (arith, below (start l))) (before-stays _ _ _ _ _ refl refl (c .if2 .taken))
+    more l _ (omega (arith, below (start l))) (before-stays _ _ _ refl refl (c .if2 .taken))
 
 returns-3 : tie.Need-returns-3
 returns-3 c =
     let l = c .before .before .before in
     more l _ (omega arith)
-    (before-overtakes _ _ _ _ _ refl refl true (c .before .before .if2 .left)
+    (before-overtakes _ _ _ refl refl true (c .before .before .if2 .left)
     (sym (c .if3 .taken) ∙ c .before .overtakes .ensures))
 
 returns-4 : tie.Need-returns-4
 returns-4 c =
     let l = c .before .before .before in
     more l _ (omega (arith, below (start l)))
-    (before-overtakes _ _ _ _ _ refl refl false (c .before .before .if2 .left)
+    (before-overtakes _ _ _ refl refl false (c .before .before .if2 .left)
     (sym (c .if3 .left) ∙ c .before .overtakes .ensures))
 
 pub head-with-spec : {M : Type 1} → statement M
@@ -85,8 +84,8 @@ head-with-spec =
     (λ c. search needs)
     cast-top
     array-read-top
-    cast-p
-    array-read-p
+    cast-rank
+    array-read-rank
     returns-2
     (λ c κs. search needs)
     returns-3

@@ -7,7 +7,7 @@ use lib.ListN.{length, drop}
 use lib.Seq.{paste}
 use borrow.Author.Needs.{needs}
 use Rattle.line.specs.Places.{ring}
-use Rattle.line.proofs.Rings.{straight-zero, straight-paste}
+use Rattle.line.proofs.Rings.{straight-zero, paste-straight}
 use Rattle.line.proofs.straight.Statement.{statement}
 use Rattle.line.proofs.straight.Tie as tie
 
@@ -23,8 +23,9 @@ returns-2 c =
     let q = s .args .q in
     let l : length q ≡ 32 = search needs in
     c .put-stretch2 .ensures
-    ∙ ap (λ (x : List ℕ). paste x (s .args .n - s .args .head) (drop 0 q) (s .args .head)) (c .before .put-stretch .ensures)
-    ∙ straight-paste (s .args .head) (s .args .n) q (s .pre .0) (omega (arith, s .pre .1))
+    ∙ ap (λ (x : List ℕ). paste x (s .args .n - s .args .head) (drop 0 q) (s .args .head))
+    (c .before .put-stretch .ensures)
+    ∙ paste-straight (s .args .head) (s .args .n) q (s .pre .0) (omega (arith, s .pre .1))
 
 pub straight-spec : {M : Type 1} → statement M
 straight-spec =

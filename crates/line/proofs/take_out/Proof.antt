@@ -21,7 +21,7 @@ whole : (c : tie.At-loop Inv-loop μ-loop) → length (c .loop .queue) ≡ 32
 whole c =
     let s = c .before in
     let i = c .loop in
-    movedUp-length (s .args .place) (s .args .queue .now) (inside s) (s .pre .1 .whole) (i .k) (i .queue) (i .inv .0)
+    movedUp-length (inside s) (s .args .queue .now) (s .pre .1 .whole) (i .inv .0)
     (omega (arith, i .inv .1, s .pre .0, s .pre .1 .fits)) (i .inv .2)
 
 sub-last : tie.Need-sub-last Inv-loop μ-loop
@@ -31,7 +31,7 @@ loop-holds : tie.Need-loop-holds Inv-loop μ-loop
 loop-holds c = (
   omega arith,
   omega (arith, c .pre .0),
-  movedUp-start (c .args .place) (c .args .queue .now) (inside c) (c .pre .1 .whole),
+  movedUp-start (inside c) (c .args .queue .now) (c .pre .1 .whole),
 )
 
 element-copy-out-queue : tie.Need-element-copy-out-queue Inv-loop μ-loop
@@ -46,7 +46,7 @@ loop-again c =
     let i = c .before .before .loop in (
       omega arith,
       omega arith,
-      movedUp-step (s .args .place) (s .args .queue .now) (inside s) (s .pre .1 .whole) (i .k) (i .queue) (i .inv .0)
+      movedUp-step (inside s) (s .args .queue .now) (s .pre .1 .whole) (i .inv .0)
           (omega (arith, c .before .loop-test .taken, s .pre .0, s .pre .1 .fits)) (i .inv .2),
     )
 
@@ -57,7 +57,7 @@ returns : tie.Need-returns Inv-loop μ-loop
 returns c =
     let s = c .before .before in
     let i = c .before .loop in
-    movedUp-end (s .args .place) (s .args .queue .now) (inside s) (s .pre .1 .whole) (s .args .n) (i .k) (i .queue)
+    movedUp-end (inside s) (s .args .queue .now) (s .pre .1 .whole)
     (s .pre .0) (s .pre .1 .fits) (s .pre .1 .clear) (omega (arith, i .inv .1, c .loop-test .left)) (i .inv .2)
 
 pub take-out-spec : {M : Type 1} → statement M

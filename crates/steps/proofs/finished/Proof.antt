@@ -2,7 +2,7 @@
 use native.Mathlib.Omega.{arith}
 use mathlib.Core.Path.{_∙_}
 use borrow.Author.Needs.{needs}
-use Rattle.line.proofs.Rings.{takenOut-length, takenOut-below}
+use Rattle.line.proofs.Rings.{length-takenOut, below-takenOut}
 use Rattle.steps.proofs.finished.Statement.{statement}
 use Rattle.steps.proofs.finished.Tie as tie
 
@@ -19,8 +19,8 @@ head-of-requires c κs =
     let q = s .args .queue .now in
     let K = s .pre .1 .0 in
     rw (c .before .take-out .ensures) (
-      takenOut-length h q (omega (arith, K .inside, K .tidy .fits, K .tidy .whole, s .pre .1 .1 .0)) ∙ K .tidy .whole,
-      (takenOut-below 32 h q (s .pre .1 .1 .1 .0), omega (arith, K .tidy .fits)),
+      length-takenOut h q (omega (arith, K .inside, K .tidy .fits, K .tidy .whole, s .pre .1 .1 .0)) ∙ K .tidy .whole,
+      (below-takenOut 32 h q (s .pre .1 .1 .1 .0), omega (arith, K .tidy .fits)),
     )
 
 pub finished-spec : {M : Type 1} → statement M

@@ -10,7 +10,7 @@ use Rattle.engine.proofs.opening.joined.Tie as tie
 
 -- the queue is as long as it was
 same : (c : tie.After-straightened) → c .straightened .result .queued ≡ c .before .before .args .c .queued
-same c = straight-queued (c .before .before .args .s) (c .before .before .args .c) _ (c .straightened .ensures .0)
+same c = straight-queued (c .before .before .args .p) (c .before .before .args .c) (c .straightened .ensures .0)
 
 room : (c : tie.After-straightened) → c .straightened .result .queued < 32
 room c = omega (arith, same c, c .before .before .pre .1 .0)
@@ -20,17 +20,15 @@ element-write-queue c = room c
 
 head-with-requires : tie.Need-head-with-requires
 head-with-requires c κs =
-    let p = c .before in
-    let s = p .before .before in
-    let a = s .args in
-    let e = p .straightened .ensures in
+    let w = c .before in
+    let s = w .before .before in
+    let e = w .straightened .ensures in
     let K = s .pre .0 in (
-      rw length-set (straight-tidy (a .s) (a .c) (a .queue .now) K _ (e .1) .whole),
+      rw length-set (straight-tidy K (e .1) .whole),
       (
-        rw (same p)
-            (straight-tasks (a .s) (a .c) (a .queue .now) K _ (e .1) (a .task) (s .pre .1 .0) (s .pre .1 .1 .1)
-            (s .pre .1 .1 .0)),
-        (room p, straight-heads (a .s) (a .c) (a .queue .now) K _ (e .1) (p .straightened .result) (a .task) (e .0)),
+        rw (same w)
+            (straight-tasks K (e .1) (s .pre .1 .0) (s .pre .1 .1 .1) (s .pre .1 .1 .0)),
+        (room w, straight-heads K (e .1) (s .args .task) (e .0)),
       ),
     )
 
@@ -39,12 +37,10 @@ add-t11 c = omega (arith, room (c .before .before))
 
 returns : tie.Need-returns
 returns c =
-    let p = c .before .before in
-    let s = p .before .before in
-    let a = s .args in
-    let e = p .straightened .ensures in
-    joined-opens (a .s) (a .c) (a .queue .now) (s .pre .0) _ (e .1) (p .straightened .result) (a .task) (a .amount)
-    (a .owed .now) _ (e .0) (s .pre .1 .0) (c .head-with .ensures)
+    let w = c .before .before in
+    let s = w .before .before in
+    let e = w .straightened .ensures in
+    joined-opens (s .pre .0) (e .1) (e .0) (s .pre .1 .0) (c .head-with .ensures)
 
 pub joined-spec : {M : Type 1} → statement M
 joined-spec =

@@ -5,7 +5,7 @@ use mathlib.Core.List.{List, _++_}
 use lib.ListN.{drop, take-append-drop}
 use borrow.Author.Tests.{eq-eqb, ne-eqb}
 use borrow.Author.Needs.{needs}
-use Rattle.engine.specs.Inner.{straightTo}
+use Rattle.engine.specs.Joining.{straightTo}
 use Rattle.line.proofs.Queues.{queueAt-priority, queueAt-robin}
 use Rattle.engine.proofs.opening.straightened.Statement.{statement}
 use Rattle.engine.proofs.opening.straightened.Tie as tie
@@ -18,7 +18,7 @@ returns c =
     let q = s .args .queue .now in
     let e = eq-eqb _ 1 (c .if1 .taken) in (
       rw e,
-      sym (ap (λ (x : List ℕ). x ++ drop (k .queued) q) (queueAt-priority (s .args .s) (k .head) (k .queued) q e)
+      sym (ap (λ (x : List ℕ). x ++ drop (k .queued) q) (queueAt-priority (s .args .p) (k .head) (k .queued) q e)
           ∙ take-append-drop (k .queued) q),
     )
 
@@ -31,7 +31,7 @@ returns-2 c =
     let e = ne-eqb _ 1 (c .before .before .if1 .left) in (
       rw e,
       c .straight .ensures
-          ∙ ap (λ (x : List ℕ). x ++ drop (k .queued) q) (sym (queueAt-robin (s .args .s) (k .head) (k .queued) q e)),
+          ∙ ap (λ (x : List ℕ). x ++ drop (k .queued) q) (sym (queueAt-robin (s .args .p) (k .head) (k .queued) q e)),
     )
 
 pub straightened-spec : {M : Type 1} → statement M

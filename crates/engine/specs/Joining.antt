@@ -11,16 +11,16 @@ use Rattle.legs.specs.declared.Cursor.{Cursor}
 
 -- the queue from place 0 on, under both policies
 unfoldable pub straightTo : Setup → Cursor → Cursor
-straightTo s c =
+straightTo p c =
     record {
       clock = c .clock;
       idle = c .idle;
       used = c .used;
       queued = c .queued;
-      head = cond (isPriority s) (c .head) 0;
+      head = cond (isPriority p) (c .head) 0;
     }
 
 -- The task has joined the back of the queue, whatever was given and done.
-pub record Opens (s : Setup) (c : Cursor) (task amount : ℕ) (q o : List ℕ) (r : Cursor) (q′ o′ : List ℕ) : Type 0 where
-  pub kept : Kept s r q′
-  pub shown : (g d : List ℕ) → parts s r q′ o′ g d ≡ opened (parts s c q o g d) task amount
+pub record Opens (p : Setup) (c : Cursor) (task amount : ℕ) (q o : List ℕ) (r : Cursor) (q′ o′ : List ℕ) : Type 0 where
+  pub kept : Kept p r q′
+  pub shown : (g d : List ℕ) → parts p r q′ o′ g d ≡ opened (parts p c q o g d) task amount
