@@ -7,7 +7,7 @@ use mathlib.Core.Logic.{_⊎_, inl, inr, ⊎-elim, _↔_}
 use mathlib.Core.List.{List, [], _∷_, _++_}
 use lib.Dec.{eqb}
 use lib.ListN.{length, take, drop, length-append, length-drop, List·getD-append}
-use lib.Seq.{getD-drop, getD-append-add}
+use lib.Seq.{getD-drop, getD-append-add, drop-at}
 use borrow.Author.Tests.{eqb-true, eqb-false, ltb-false, eq-eqb, le-ltb}
 use Rattle.lists.specs.Lists.{at}
 use Rattle.lists.proofs.Testing.{tested, cond-true, cond-false, and-true, passed, passed-not}
@@ -168,6 +168,22 @@ written-past ts end column i h =
     ∙ getD-append-add ts (drop (length ts) column) (i - length ts) 0
     ∙ getD-drop (length ts) column (i - length ts) 0
     ∙ ap (at column) (sym e)
+
+-- an outcome whose rows are counted writes just these, and a refusal nothing
+pub written-finished : (ts : List ℕ) (end : ℕ) (column : List ℕ) (n : ℕ) → length ts ≡ n
+    → written (finished ts end) column ≡ ts ++ drop n column
+unfolding written
+written-finished ts end column n e = ap (λ (m : ℕ). ts ++ drop m column) e
+
+pub written-refused : (n i : ℕ) (column : List ℕ) → written (refused n i) column ≡ column
+unfolding written
+written-refused n i column = refl
+
+-- entries past the rows stay
+pub drop-written : (ts : List ℕ) (end : ℕ) (column : List ℕ)
+    → drop (length ts) (written (finished ts end) column) ≡ drop (length ts) column
+unfolding written
+drop-written ts end column = drop-at ts (drop (length ts) column) (length ts) refl
 
 -- ---- what an entry is
 

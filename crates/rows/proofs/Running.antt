@@ -10,13 +10,12 @@ use Rattle.lists.specs.Lists.{at, total}
 use Rattle.lists.proofs.Testing.{cond-same}
 use Rattle.rule.specs.Setups.{setupRefusal, isPriority}
 use Rattle.rule.specs.State.{State, fresh}
-use Rattle.rule.specs.Calls.{lastTime, drained, opened, Call, request, refusal, effect, call}
-use Rattle.rule.specs.Table.{refused, finished, completions, rows}
+use Rattle.rule.specs.Calls.{lastTime, drained, Call, request, refusal, effect, call}
+use Rattle.rule.specs.Table.{refused, finished, rows}
 use Rattle.rule.specs.declared.Setup.{Setup}
 use Rattle.laws.specs.Sound.{Sound}
 use Rattle.laws.specs.Drains.{lastClock}
-use Rattle.laws.proofs.Ticks.{moved-clock}
-use Rattle.laws.proofs.Refusals.{request-accepted, accepted-acts}
+use Rattle.laws.proofs.Refusals.{request-accepted, accepted-acts, request-clock}
 use Rattle.laws.proofs.Made.{fresh-sound}
 use Rattle.laws.proofs.Drain.{owed-limit}
 use Rattle.line.specs.Places.{queueAt}
@@ -26,9 +25,8 @@ use Rattle.legs.specs.declared.Cursor.{Cursor}
 use Rattle.engine.specs.Promises.{Asks, Reached}
 use Rattle.engine.specs.declared.Asked.{Asked}
 use Rattle.engine.proofs.Requests.{asked-taken}
-use Rattle.rows.specs.Promises.{Fitting, Runs, settled}
-use Rattle.rows.proofs.Taking.{Kept, kept-start, kept-refused, kept-step}
-use Rattle.rows.proofs.Taking.{kept-outcome, kept-many, kept-known, kept-each}
+use Rattle.rows.specs.Promises.{Fitting, Runs, settledColumn}
+use Rattle.rows.proofs.Taking.{RowsTaken, taken-start, taken-refused, taken-step, taken-outcome, taken-known}
 
 -- ---- a fresh run in parts
 
@@ -60,27 +58,19 @@ begun-kept p =
       serves = λ h. absurd (not-suc-le-zero h);
     }
 
--- ---- an accepted request
-
-request-clock : (s : State) (t k a : ℕ) → refusal s (request t k a) ≡ 0 → call s (request t k a) .clock ≡ t
-unfolding refusal effect opened
-request-clock s t k a z =
-    ap (λ (x : State). x .clock) (accepted-acts s (request t k a) z)
-    ∙ moved-clock s t (request-accepted s t k a z .later)
-
 -- ---- the rows
 
 -- after i rows
-pub record Going (p : Setup) (ts ks ms noted₀ : List ℕ) (c : Cursor) (q o g d last noted : List ℕ) (i : ℕ)
+pub record RowsGoing (p : Setup) (ts ks ms noted₀ : List ℕ) (c : Cursor) (q o g d last noted : List ℕ) (i : ℕ)
     : Type 0 where
   pub kept : legs.Kept p c q
   pub sound : Sound (parts p c q o g d)
   pub soon : c .clock ≤ lastTime
-  pub rows : Kept ts ks ms (fresh p) (parts p c q o g d) last noted i (length noted₀)
+  pub rows : RowsTaken ts ks ms (fresh p) (parts p c q o g d) last noted i (length noted₀)
 
 module _ {p : Setup} {ts ks ms noted₀ : List ℕ} where
   pub going-start : setupRefusal p ≡ 0
-      → Going p ts ks ms noted₀ begun zeros32 zeros32 zeros32 zeros32 zeros32 noted₀ 0
+      → RowsGoing p ts ks ms noted₀ begun zeros32 zeros32 zeros32 zeros32 zeros32 noted₀ 0
   going-start z =
       let e = begun-parts p in
       record {
@@ -88,12 +78,12 @@ module _ {p : Setup} {ts ks ms noted₀ : List ℕ} where
         sound = subst Sound (sym e) (fresh-sound p z);
         soon = zero-le;
         rows =
-            subst (λ (s : State). Kept ts ks ms (fresh p) s zeros32 noted₀ 0 (length noted₀)) (sym e)
-            (kept-start ts ks ms (fresh p) noted₀);
+            subst (λ (s : State). RowsTaken ts ks ms (fresh p) s zeros32 noted₀ 0 (length noted₀)) (sym e)
+            (taken-start ts ks ms (fresh p) noted₀);
       }
 
   module _ (F : Fitting p ts ks ms noted₀) {c : Cursor} {q o g d last noted : List ℕ} {i : ℕ}
-      (G : Going p ts ks ms noted₀ c q o g d last noted i) where
+      (G : RowsGoing p ts ks ms noted₀ c q o g d last noted i) where
     abbrev s : State
     s = parts p c q o g d
 
@@ -120,7 +110,7 @@ module _ {p : Setup} {ts ks ms noted₀ : List ℕ} where
           record {
             room = G .rows .room;
             stopped = λ y.
-                kept-refused (G .rows) (F .tasks-too) (F .amounts-too) h (λ x. z (number ∙ x))
+                taken-refused (G .rows) (F .tasks-too) (F .amounts-too) h (λ x. z (number ∙ x))
                 ∙ ap (λ (n : ℕ). refused n (i + 1)) (sym number);
             taken = λ y. absurd (z y);
           }
@@ -144,7 +134,7 @@ module _ {p : Setup} {ts ks ms noted₀ : List ℕ} where
 
         pub going-step : {last′ noted′ : List ℕ} → last′ ≡ set last (at ks i) (i + 1)
             → noted′ ≡ set noted (at last (at ks i)) (at d′ (at ks i))
-            → Going p ts ks ms noted₀ (r .cursor) q′ o′ g′ d′ last′ noted′ (i + 1)
+            → RowsGoing p ts ks ms noted₀ (r .cursor) q′ o′ g′ d′ last′ noted′ (i + 1)
         going-step e₁ e₂ =
             let t : r .cursor .clock ≡ at ts i =
             ap (λ (x : State). x .clock) called ∙ request-clock s (at ts i) (at ks i) (at ms i) accepted in
@@ -154,10 +144,10 @@ module _ {p : Setup} {ts ks ms noted₀ : List ℕ} where
               sound = A .left .sound;
               soon = rw t (late accepted);
               rows =
-                  subst (λ (x : State). Kept ts ks ms (fresh p) x (set last (at ks i) (i + 1))
+                  subst (λ (x : State). RowsTaken ts ks ms (fresh p) x (set last (at ks i) (i + 1))
                   (set noted (at last (at ks i)) (at (x .done) (at ks i))) (i + 1) (length noted₀))
                   (sym called)
-                  (kept-step (G .rows) (F .tasks-too) (F .amounts-too) h accepted going-known (F .room));
+                  (taken-step (G .rows) (F .tasks-too) (F .amounts-too) h accepted going-known (F .room));
             }
           where
             late : refusal s row ≡ 0 → at ts i ≤ lastTime
@@ -176,13 +166,9 @@ module _ {p : Setup} {ts ks ms noted₀ : List ℕ} where
           stopped = λ y. absurd (y refl);
           taken = λ y.
               record {
-                known = kept-known (G .rows) (F .tasks-too) h;
+                known = taken-known (G .rows) (F .tasks-too) (F .amounts-too) h;
                 ends =
-                    kept-outcome (G .rows) (F .tasks-too) h
-                    ∙ ap (λ (x : State). finished (completions (fresh p) (rows ts ks ms)) (x .clock)) (sym e);
-                many = kept-many (G .rows) (F .tasks-too) h;
-                each = λ j g₁.
-                    kept-each (G .rows) (F .tasks-too) h j g₁
-                    ∙ ap (λ (x : State). settled ks last (x .done) noted j) (sym e);
+                    taken-outcome (G .rows) (F .tasks-too) (F .amounts-too) h
+                    ∙ ap (λ (x : State). finished (settledColumn ks last (x .done) noted) (x .clock)) (sym e);
               };
         }

@@ -8,10 +8,10 @@ use borrow.Author.Tests.{eq-eqb, ne-eqb}
 use Rattle.lists.proofs.Testing.{cond-true, cond-false}
 use Rattle.rule.specs.Setups.{setupRefusal}
 use Rattle.rule.specs.State.{fresh}
-use Rattle.rule.specs.Table.{Outcome, outcomeFrom, rows, columnRefusal, tableRefusal, tableFrom, table, written}
+use Rattle.rule.specs.Table.{Outcome, outcomeFrom, rows, columnRefusal, tableRefusal, tableFrom, table}
 use Rattle.rule.specs.declared.Setup.{Setup}
 use Rattle.laws.specs.Rows.{Tabled}
-use Rattle.laws.proofs.Tables.{table-tabled, table-exact}
+use Rattle.laws.proofs.Tables.{table-tabled, table-exact, written-refused}
 use Rattle.rows.specs.Promises.{Fitting}
 use Rattle.table.specs.Answers.{Answers, AnswersTable}
 use Rattle.table.specs.declared.TableAnswer.{TableAnswer}
@@ -35,11 +35,11 @@ module _ (p : Setup) (ts ks ms before : List ℕ) where
   -- ---- refused before the rows
 
   refused-at : (n : ℕ) → judged ≡ n → (n ≡ 0 → ⊥) → AnswersTable p ts ks ms before (Refused n 0) before
-  unfolding table tableFrom written
+  unfolding table tableFrom
   refused-at n e z =
       subst (λ (o : Outcome). Answers o before (Refused n 0) before)
       (sym (ap (λ (m : ℕ). tableFrom m p (rows ts ks ms)) e ∙ cond-false _ _ (ne-eqb n 0 z)))
-      record { answer = refl; column = refl }
+      record { answer = refl; column = sym (written-refused n 0 before) }
 
   pub table-misset : (n : ℕ) → n ≡ setupRefusal p → (n ≡ 0 → ⊥) → AnswersTable p ts ks ms before (Refused n 0) before
   table-misset n e z = refused-at n (judged-setup (λ y. z (e ∙ y)) ∙ sym e) z

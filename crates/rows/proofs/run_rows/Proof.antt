@@ -1,18 +1,18 @@
--- `rows::run_rows` meets its contract. The invariant: `Going`, what is known of the parts and of every row's
+-- `rows::run_rows` meets its contract. The invariant: `RowsGoing`, what is known of the parts and of every row's
 -- completion after the first i rows. Assumes nothing.
 use Prim.Native.Nat.{_-_, _<_}
 use native.Mathlib.Omega.{arith}
 use lib.ListN.{length}
 use borrow.Author.Needs.{needs}
 use Rattle.lists.specs.Lists.{at}
-use Rattle.rows.proofs.Running.{Going, going-start, going-known, going-step}
+use Rattle.rows.proofs.Running.{RowsGoing, going-start, going-known, going-step}
 use Rattle.rows.proofs.Running.{going-refused, going-room, going-mark, going-end}
 use Rattle.rows.proofs.run_rows.Statement.{statement}
 use Rattle.rows.proofs.run_rows.Tie as tie
 
 abbrev Inv-loop : tie.InvT-loop
 Inv-loop p ts ks ms noted₀ q₀ o₀ g₀ d₀ last₀ cursor₀ i₀ noted q o g d last cursor i =
-    Going p ts ks ms noted₀ cursor q o g d last noted i
+    RowsGoing p ts ks ms noted₀ cursor q o g d last noted i
 
 abbrev μ-loop : tie.MeasureT-loop
 μ-loop p ts ks ms noted₀ q₀ o₀ g₀ d₀ last₀ cursor₀ i₀ noted q o g d last cursor i = length ts - i

@@ -1,6 +1,7 @@
 -- `table::run_noted` meets its contract: the rows are run, and then refused or written. Assumes nothing.
 use native.Mathlib.Omega.{arith}
 use denote.Ref.{now}
+use Rattle.rows.proofs.Putting.{put-length}
 use Rattle.table.proofs.Columns.{columns-fitting, table-runs}
 use Rattle.table.proofs.Answering.{answer-refused, answer-finished}
 use Rattle.table.proofs.run_noted.Statement.{statement}
@@ -24,7 +25,7 @@ same-length c = c .before .before .before .before .run-rows .ensures .room
 returns : tie.Need-returns
 returns c =
     let rows = c .before .before .before .before in
-    table-runs _ _ _ _ _ (start rows .pre .0) (answer-refused _ _ _ _ _ _ (rows .run-rows .ensures) _ (c .if1 .taken))
+    table-runs _ _ _ _ _ (start rows .pre .0) (answer-refused (rows .run-rows .ensures) (c .if1 .taken))
 
 put-result-requires : tie.Need-put-result-requires
 put-result-requires c κs =
@@ -42,16 +43,15 @@ same-length-2 : tie.Need-same-length-2
 same-length-2 c = ran c .run-rows .ensures .room
 
 same-length-3 : tie.Need-same-length-3
-same-length-3 c = c .before .before .put-result .ensures .room
+same-length-3 c =
+    let q = start (ran c) .pre .0 in
+    put-length _ _ _ _ _ _ _ (c .before .before .put-result .ensures) (omega (arith, q .tasks-equal, q .fits))
 
 returns-2 : tie.Need-returns-2
 returns-2 c =
-    let q = start (ran c) .pre .0 in
     let past = c .before .before .before .before .before .before .before in
-    let put = c .before .before .put-result .ensures in
-    table-runs _ _ _ _ _ q
-    (answer-finished _ _ _ _ _ _ (ran c .run-rows .ensures) _ (past .if1 .left) _ put
-    (omega (arith, q .tasks-equal, q .fits)))
+    table-runs _ _ _ _ _ (start (ran c) .pre .0)
+    (answer-finished (ran c .run-rows .ensures) (past .if1 .left) (c .before .before .put-result .ensures))
 
 pub run-noted-spec : {M : Type 1} → statement M
 run-noted-spec =
