@@ -25,7 +25,7 @@ same-length c = c .before .before .before .before .run-rows .ensures .room
 returns : tie.Need-returns
 returns c =
     let rows = c .before .before .before .before in
-    table-runs _ _ _ _ _ (start rows .pre .0) (answer-refused (rows .run-rows .ensures) (c .if1 .taken))
+    table-runs _ _ _ _ _ (start rows .pre .0) (answer-refused (rows .run-rows .ensures) (λ z. omega (arith, c .if1 .taken)))
 
 put-result-requires : tie.Need-put-result-requires
 put-result-requires c κs =
@@ -35,7 +35,7 @@ put-result-requires c κs =
       omega (arith, q .tasks-equal, q .few),
       (
         omega (arith, q .tasks-equal, runs .room, start rows .pre .1),
-        (omega (arith, q .tasks-equal, q .fits), runs .taken (c .before .before .before .before .if1 .left) .known),
+        (omega (arith, q .tasks-equal, q .fits), runs .taken (omega (arith, c .before .before .before .before .if1 .left)) .known),
       ),
     )
 
@@ -51,7 +51,7 @@ returns-2 : tie.Need-returns-2
 returns-2 c =
     let past = c .before .before .before .before .before .before .before in
     table-runs _ _ _ _ _ (start (ran c) .pre .0)
-    (answer-finished (ran c .run-rows .ensures) (past .if1 .left) (c .before .before .put-result .ensures))
+    (answer-finished (ran c .run-rows .ensures) (omega (arith, past .if1 .left)) (c .before .before .put-result .ensures))
 
 pub run-noted-spec : {M : Type 1} → statement M
 run-noted-spec =
