@@ -10,12 +10,13 @@ use Rattle.lists.specs.Lists.{at, total}
 use Rattle.lists.proofs.Testing.{cond-same}
 use Rattle.rule.specs.Setups.{setupRefusal, isPriority}
 use Rattle.rule.specs.State.{State, fresh}
-use Rattle.rule.specs.Calls.{lastTime, drained, Call, request, refusal, effect, call}
+use Rattle.rule.specs.Calls.{lastTime, drained, Call, request, refusal, call}
 use Rattle.rule.specs.Table.{refused, finished, rows}
 use Rattle.rule.specs.declared.Setup.{Setup}
 use Rattle.laws.specs.Sound.{Sound}
 use Rattle.laws.specs.Drains.{lastClock}
-use Rattle.laws.proofs.Refusals.{request-accepted, accepted-acts, request-clock}
+use Rattle.laws.specs.Accepted.{Requested}
+use Rattle.laws.proofs.Refusals.{request-accepted, call-request, request-clock, refusal-request}
 use Rattle.laws.proofs.Made.{fresh-sound}
 use Rattle.laws.proofs.Drain.{owed-limit}
 use Rattle.line.specs.Places.{queueAt}
@@ -100,8 +101,7 @@ module _ {p : Setup} {ts ks ms noted₀ : List ℕ} where
       row = request (at ts i) (at ks i) (at ms i)
 
       number : r .refusal ≡ refusal s row
-      unfolding refusal
-      number = A .answer
+      number = A .answer ∙ sym (refusal-request s (at ts i) (at ks i) (at ms i))
 
       pub going-refused : (r .refusal ≡ 0 → ⊥) → (done : List ℕ)
           → Runs (fresh p) (rows ts ks ms) ks
@@ -119,18 +119,17 @@ module _ {p : Setup} {ts ks ms noted₀ : List ℕ} where
         accepted : refusal s row ≡ 0
         accepted = sym number ∙ z
 
+        requested : Requested s (at ts i) (at ks i) (at ms i)
+        requested = request-accepted s (at ts i) (at ks i) (at ms i) (sym (A .answer) ∙ z)
+
         pub going-known : at ks i < 32
-        unfolding refusal
-        going-known =
-            let k = request-accepted s (at ts i) (at ks i) (at ms i) accepted .task in
-            omega (arith, G .sound .few)
+        going-known = omega (arith, requested .task, G .sound .few)
 
         called : parts p (r .cursor) q′ o′ g′ d′ ≡ call s row
-        unfolding refusal effect
         called =
             A .left .shown
-            ∙ asked-taken s (at ts i) (at ks i) (at ms i) accepted
-            ∙ sym (accepted-acts s row accepted)
+            ∙ asked-taken s (at ts i) (at ks i) (at ms i) (sym (A .answer) ∙ z)
+            ∙ sym (call-request s (at ts i) (at ks i) (at ms i) accepted)
 
         pub going-step : {last′ noted′ : List ℕ} → last′ ≡ set last (at ks i) (i + 1)
             → noted′ ≡ set noted (at last (at ks i)) (at d′ (at ks i))
@@ -142,16 +141,13 @@ module _ {p : Setup} {ts ks ms noted₀ : List ℕ} where
             record {
               kept = A .left .kept;
               sound = A .left .sound;
-              soon = rw t (late accepted);
+              soon = rw t (requested .time);
               rows =
                   subst (λ (x : State). RowsTaken ts ks ms (fresh p) x (set last (at ks i) (i + 1))
                   (set noted (at last (at ks i)) (at (x .done) (at ks i))) (i + 1) (length noted₀))
                   (sym called)
                   (taken-step (G .rows) (F .tasks-too) (F .amounts-too) h accepted going-known (F .room));
             }
-          where
-            late : refusal s row ≡ 0 → at ts i ≤ lastTime
-            late y = unfold refusal in request-accepted s (at ts i) (at ks i) (at ms i) y .time
 
     -- ---- the end
 
