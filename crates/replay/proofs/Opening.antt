@@ -8,6 +8,7 @@ use mathlib.Core.List.{List}
 use lib.ListN.{length, set, take, length-set}
 use lib.Seq.{length-take-le, take-suc-set}
 use Rattle.lists.specs.Lists.{at}
+use Rattle.lists.proofs.Places.{clear-set}
 use Rattle.rule.specs.State.{State}
 use Rattle.rule.specs.Calls.{moved, opened, request, requestRefusal, refusal, effect}
 use Rattle.rule.specs.View.{view, Tidy, Shows}
@@ -15,7 +16,6 @@ use Rattle.rule.specs.declared.Run.{Run}
 use Rattle.laws.specs.Sound.{Sound}
 use Rattle.laws.proofs.Refusals.{refusal-request, effect-request}
 use Rattle.laws.proofs.Made.{queue-room}
-use Rattle.line.proofs.Rings.{clear-set}
 use Rattle.requests.specs.Early.{earlyRefusal}
 use Rattle.requests.proofs.Early.{refusal-now, refusal-open, refusal-none}
 use Rattle.replay.proofs.Calling.{shows-then}

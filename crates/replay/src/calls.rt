@@ -4,6 +4,7 @@ ghost use mathlib.Core.Path.{_≡_};
 ghost use Prim.Native.Nat.{_≤_, _<_};
 ghost use Rattle.rule.specs.Calls.{moved, opened, request, advance, drain};
 ghost use Rattle.rule.specs.View.{view, Tidy, MadeRun, Shows, Promised};
+ghost use Rattle.laws.specs.Drains.{lastClock};
 ghost use Rattle.laws.specs.Sound.{Sound};
 ghost use Rattle.replay.specs.Answers.{callNumber};
 
@@ -43,7 +44,7 @@ fn moved_to(run: Run, time: u32) -> Run
     requires { ⌜ Tidy run ⌝ }
     requires { ⌜ Sound (view run) ⌝ }
     requires { ⌜ run .clock ≤ time ⌝ }
-    requires { ⌜ time ≤ 4_032_000_000 ⌝ }
+    requires { ⌜ time ≤ lastClock ⌝ }
     ensures { λ r. ⌜ Shows r (moved (view run) time) ⌝ }
 {
     let s = run.setup;
