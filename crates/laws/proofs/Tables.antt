@@ -40,10 +40,13 @@ table-tabled p times tasks amounts room e =
     let p3 = passed _ 21 _ (p2 .1) in
     let lengths = and-true (eqb tasks times) (eqb amounts times) (p1 .0) in
     record {
-      setup = eqb-true (setupRefusal p) 0 f;
-      tasks-equal = eqb-true tasks times (lengths .0);
-      amounts-equal = eqb-true amounts times (lengths .1);
-      few = ltb-false mostRows times (p2 .0);
+      fitted =
+          record {
+            setup = eqb-true (setupRefusal p) 0 f;
+            tasks-equal = eqb-true tasks times (lengths .0);
+            amounts-equal = eqb-true amounts times (lengths .1);
+            few = ltb-false mostRows times (p2 .0);
+          };
       fits = ltb-false room times (p3 .0);
     })
     (λ f. absurd (eqb-false (setupRefusal p) 0 f (rw f at e)))
@@ -54,10 +57,10 @@ unfolding tableRefusal columnRefusal
 table-exact p times tasks amounts room = (
   table-tabled p times tasks amounts room,
   λ h. rw (
-    eq-eqb (setupRefusal p) 0 (h .setup),
-    eq-eqb tasks times (h .tasks-equal),
-    eq-eqb amounts times (h .amounts-equal),
-    le-ltb mostRows times (h .few),
+    eq-eqb (setupRefusal p) 0 (h .fitted .setup),
+    eq-eqb tasks times (h .fitted .tasks-equal),
+    eq-eqb amounts times (h .fitted .amounts-equal),
+    le-ltb mostRows times (h .fitted .few),
     le-ltb room times (h .fits),
   ),
 )

@@ -43,7 +43,7 @@ module _ (p : Setup) (ts ks ms : List ℕ) (tabled : Tabled p (length ts) (lengt
       let same : completions (fresh p) (rows ts ks ms) ≡ ds = first (w .1) in
       ap length (sym same)
       ∙ completions-length (fresh p) ts ks ms
-      ∙ length-rows ts ks ms (tabled .tasks-equal) (tabled .amounts-equal))
+      ∙ length-rows ts ks ms (tabled .fitted .tasks-equal) (tabled .fitted .amounts-equal))
       (λ w. absurd (other (w .3)))
       (calls-outcome (fresh p) (rows ts ks ms))
     where
@@ -120,10 +120,10 @@ module _ (p : Setup) (ts ks ms : List ℕ) (tabled : Tabled p (length ts) (lengt
       after-columns : Columns ks ts ms (take (length ts) after)
       after-columns =
           record {
-            few = omega (arith, tabled .tasks-equal, tabled .few);
-            asked-too = sym (tabled .tasks-equal);
-            amounts-too = tabled .amounts-equal ∙ sym (tabled .tasks-equal);
-            done-too = sym after-part ∙ sym (tabled .tasks-equal);
+            few = omega (arith, tabled .fitted .tasks-equal, tabled .fitted .few);
+            asked-too = sym (tabled .fitted .tasks-equal);
+            amounts-too = tabled .fitted .amounts-equal ∙ sym (tabled .fitted .tasks-equal);
+            done-too = sym after-part ∙ sym (tabled .fitted .tasks-equal);
           }
 
       pub text-finished : columnsText ks ts ms (take (length ts) after) end ≡ tablePrinted ts ks ms o

@@ -1,5 +1,5 @@
 -- What the functions inside a table run promise. Rows count from 1 in `last` and `noted`. Assumes nothing.
-use Prim.Native.Nat.{ℕ, zero, suc, _+_, _≤_, _<_}
+use Prim.Native.Nat.{ℕ, zero, suc, _+_}
 use mathlib.Core.Path.{_≡_}
 use mathlib.Core.Bool.{cond}
 use mathlib.Core.List.{List, [], _∷_, _++_}
@@ -7,11 +7,9 @@ use lib.ListN.{length}
 use lib.Dec.{eqb}
 use Rattle.lists.specs.Lists.{at}
 use Rattle.lists.proofs.Places.{Below}
-use Rattle.rule.specs.Setups.{setupRefusal}
 use Rattle.rule.specs.State.{State}
 use Rattle.rule.specs.Calls.{Call}
-use Rattle.rule.specs.Table.{refused, finished, outcomeFrom, mostRows}
-use Rattle.rule.specs.declared.Setup.{Setup}
+use Rattle.rule.specs.Table.{refused, finished, outcomeFrom}
 use Rattle.rows.specs.declared.Ran.{Ran}
 
 -- ---- each row's completion
@@ -34,14 +32,6 @@ abbrev pub settledColumn : List ℕ → List ℕ → List ℕ → List ℕ → L
 settledColumn ks last done noted = settledRows ks last done noted (length ks)
 
 -- ---- the rows run
-
--- An accepted setup, columns of one length that are few enough, and an entry of notes for each row and one more.
-pub record Fitting (p : Setup) (ts ks ms noted : List ℕ) : Type 0 where
-  pub accepted : setupRefusal p ≡ 0
-  pub tasks-too : length ks ≡ length ts
-  pub amounts-too : length ms ≡ length ts
-  pub few : length ts ≤ mostRows
-  pub room : length ts < length noted
 
 -- All rows were accepted, each for one of the 32 tasks, and the run was drained.
 pub record AllTaken (s : State) (cs : List Call) (ks : List ℕ) (r : Ran) (noted : List ℕ) : Type 0 where

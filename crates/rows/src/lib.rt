@@ -10,7 +10,8 @@ ghost use Rattle.lists.specs.Lists.{at};
 ghost use Rattle.lists.proofs.Places.{Below};
 ghost use Rattle.rule.specs.State.{fresh};
 ghost use Rattle.rule.specs.Table.{rows, mostRows};
-ghost use Rattle.rows.specs.Promises.{Fitting, Runs, settledColumn};
+ghost use Rattle.laws.specs.Rows.{Fitted};
+ghost use Rattle.rows.specs.Promises.{Runs, settledColumn};
 
 // The rows run: the refusal or 0; where they ended, by the row that was refused or by the clock after the drain; each
 // task's last row or 0; and each task's latest completion. Rows count from 1.
@@ -45,7 +46,8 @@ pub fn run_rows(
     amounts: &[u32],
     noted: &mut [u32],
 ) -> Ran
-    requires { ⌜ Fitting setup (now times) (now tasks) (now amounts) (now noted) ⌝ }
+    requires { ⌜ Fitted setup (length (now times)) (length (now tasks)) (length (now amounts)) ⌝ }
+    requires { ⌜ length (now times) < length (now noted) ⌝ }
     ensures { λ r. ⌜ Runs (fresh setup) (rows (now (times .entry)) (now (tasks .entry)) (now (amounts .entry)))
         (now (tasks .entry)) r (now (noted .entry)) (now (noted .exit)) ⌝ }
 {

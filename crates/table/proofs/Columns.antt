@@ -1,6 +1,6 @@
 -- The refusals before the rows: what columns that fit have, and the three ways in which a table is answered.
 -- Assumes nothing.
-use Prim.Native.Nat.{ℕ, _<_}
+use Prim.Native.Nat.{ℕ}
 use mathlib.Core.Path.{_≡_, refl, sym, ap, _∙_, subst}
 use mathlib.Core.List.{List}
 use lib.ListN.{length}
@@ -12,7 +12,6 @@ use Rattle.rule.specs.Table.{Outcome, outcomeFrom, rows, columnRefusal, tableRe
 use Rattle.rule.specs.declared.Setup.{Setup}
 use Rattle.laws.specs.Rows.{Tabled}
 use Rattle.laws.proofs.Tables.{table-tabled, table-exact, written-refused}
-use Rattle.rows.specs.Promises.{Fitting}
 use Rattle.table.specs.Answers.{Answers, AnswersTable}
 use Rattle.table.specs.declared.TableAnswer.{TableAnswer}
 use Rattle.table.specs.declared.TableAnswer.the-variants.{Refused}
@@ -66,16 +65,6 @@ module _ (p : Setup) (ts ks ms before : List ℕ) where
     table-asked {r} {after} h = subst (λ (x : Setup). AnswersTable x ts ks ms before r after) e h
 
   module _ (q : Tabled p (length ts) (length ks) (length ms) (length before)) where
-    pub columns-fitting : (noted : List ℕ) → length ts < length noted → Fitting p ts ks ms noted
-    columns-fitting noted h =
-        record {
-          accepted = q .setup;
-          tasks-too = q .tasks-equal;
-          amounts-too = q .amounts-equal;
-          few = q .few;
-          room = h;
-        }
-
     pub table-runs : {r : TableAnswer} {after : List ℕ} → Answers (outcomeFrom (fresh p) (rows ts ks ms)) before r after
         → AnswersTable p ts ks ms before r after
     unfolding table tableFrom

@@ -1,8 +1,7 @@
 -- `table::run_noted` meets its contract: the rows are run, and then refused or written. Assumes nothing.
 use native.Mathlib.Omega.{arith}
-use denote.Ref.{now}
 use Rattle.rows.proofs.Putting.{put-length}
-use Rattle.table.proofs.Columns.{columns-fitting, table-runs}
+use Rattle.table.proofs.Columns.{table-runs}
 use Rattle.table.proofs.Answering.{answer-refused, answer-finished}
 use Rattle.table.proofs.run_noted.Statement.{statement}
 use Rattle.table.proofs.run_noted.Tie as tie
@@ -17,7 +16,7 @@ ran c = c .before .before .before .before .before .before .before .before .befor
 run-rows-requires : tie.Need-run-rows-requires
 run-rows-requires c κs =
     let s = c .before .before .before .before .before .before in
-    columns-fitting _ _ _ _ (now (s .args .result)) (s .pre .0) _ (s .pre .1)
+    (s .pre .0 .fitted, s .pre .1)
 
 same-length : tie.Need-same-length
 same-length c = c .before .before .before .before .run-rows .ensures .room
@@ -32,10 +31,10 @@ put-result-requires c κs =
     let rows = c .before .before .before .before .before .before .before .before in
     let q = start rows .pre .0 in
     let runs = rows .run-rows .ensures in (
-      omega (arith, q .tasks-equal, q .few),
+      omega (arith, q .fitted .tasks-equal, q .fitted .few),
       (
-        omega (arith, q .tasks-equal, runs .room, start rows .pre .1),
-        (omega (arith, q .tasks-equal, q .fits), runs .taken (omega (arith, c .before .before .before .before .if1 .left)) .known),
+        omega (arith, q .fitted .tasks-equal, runs .room, start rows .pre .1),
+        (omega (arith, q .fitted .tasks-equal, q .fits), runs .taken (omega (arith, c .before .before .before .before .if1 .left)) .known),
       ),
     )
 
@@ -45,7 +44,7 @@ same-length-2 c = ran c .run-rows .ensures .room
 same-length-3 : tie.Need-same-length-3
 same-length-3 c =
     let q = start (ran c) .pre .0 in
-    put-length _ _ _ _ _ _ _ (c .before .before .put-result .ensures) (omega (arith, q .tasks-equal, q .fits))
+    put-length _ _ _ _ _ _ _ (c .before .before .put-result .ensures) (omega (arith, q .fitted .tasks-equal, q .fits))
 
 returns-2 : tie.Need-returns-2
 returns-2 c =
