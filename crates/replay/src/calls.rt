@@ -8,6 +8,7 @@ ghost use Rattle.laws.specs.Drains.{lastClock};
 ghost use Rattle.laws.specs.Sound.{Sound};
 ghost use Rattle.replay.specs.Answers.{callNumber};
 
+// A call's answer: accepted, or why it is refused.
 pub enum CallAnswer {
     Accepted,
     TimePastLimit,
@@ -17,6 +18,7 @@ pub enum CallAnswer {
     StillOpen,
 }
 
+// A call's answer, and the run after it.
 pub struct Moved {
     pub answer: CallAnswer,
     pub run: Run,
@@ -73,7 +75,7 @@ fn opened_by(run: Run, task: u8, amount: u32) -> Run
     next
 }
 
-// Moves the clock to the time and opens the task.
+// Moves the clock to the time and opens the task; a refusal leaves the very run.
 pub fn request(run: Run, time: u32, task: u32, amount: u32) -> Moved
     requires { ⌜ MadeRun run ⌝ }
     ensures { λ r. ⌜ Promised run (request time task amount) (callNumber (r .answer)) (r .run) ⌝ }
@@ -97,7 +99,7 @@ pub fn request(run: Run, time: u32, task: u32, amount: u32) -> Moved
     Moved { answer, run: after }
 }
 
-// Moves the clock to the time.
+// Moves the clock to the time; a refusal leaves the very run.
 pub fn advance(run: Run, time: u32) -> Moved
     requires { ⌜ MadeRun run ⌝ }
     ensures { λ r. ⌜ Promised run (advance time) (callNumber (r .answer)) (r .run) ⌝ }
