@@ -8,7 +8,7 @@ use mathlib.Core.List.{List, [], _∷_, _++_}
 use lib.Dec.{eqb}
 use lib.ListN.{length, take, drop, length-append, length-drop, List·getD-append}
 use lib.Seq.{getD-drop, getD-append-add, drop-at}
-use borrow.Author.Tests.{eqb-true, eqb-false, ltb-false, eq-eqb, le-ltb}
+use borrow.Author.Tests.{eqb-true, eqb-false, ltb-false, eq-eqb, ne-eqb, le-ltb}
 use Rattle.lists.specs.Lists.{at}
 use Rattle.lists.proofs.Testing.{tested, cond-true, cond-false, and-true, passed, passed-not}
 use Rattle.lists.proofs.Totals.{at-set-same}
@@ -64,6 +64,16 @@ table-exact p times tasks amounts room = (
     le-ltb room times (h .fits),
   ),
 )
+
+pub tableRefusal-setup : (p : Setup) (times tasks amounts room : ℕ) → (setupRefusal p ≡ 0 → ⊥)
+    → tableRefusal p times tasks amounts room ≡ setupRefusal p
+unfolding tableRefusal
+tableRefusal-setup p times tasks amounts room z = cond-false _ _ (ne-eqb (setupRefusal p) 0 z)
+
+pub tableRefusal-columns : (p : Setup) (times tasks amounts room : ℕ) → setupRefusal p ≡ 0
+    → tableRefusal p times tasks amounts room ≡ columnRefusal times tasks amounts room
+unfolding tableRefusal
+tableRefusal-columns p times tasks amounts room z = cond-true _ _ (eq-eqb (setupRefusal p) 0 z)
 
 -- ---- the outcome
 
@@ -140,6 +150,18 @@ pub table-outcome : (p : Setup) (ts ks ms : List ℕ) (room : ℕ)
 unfolding table
 table-outcome p ts ks ms room =
     from-outcome (tableRefusal p (length ts) (length ks) (length ms) room) p (rows ts ks ms)
+
+-- refused before the rows, or the outcome of the rows
+module _ (p : Setup) (ts ks ms : List ℕ) (room : ℕ) where
+  pub table-refused : (n : ℕ) → tableRefusal p (length ts) (length ks) (length ms) room ≡ n → (n ≡ 0 → ⊥)
+      → table p ts ks ms room ≡ refused n 0
+  unfolding table tableFrom
+  table-refused n e z = ap (λ (m : ℕ). tableFrom m p (rows ts ks ms)) e ∙ cond-false _ _ (ne-eqb n 0 z)
+
+  pub table-accepted : Tabled p (length ts) (length ks) (length ms) room
+      → table p ts ks ms room ≡ outcomeFrom (fresh p) (rows ts ks ms)
+  unfolding table tableFrom
+  table-accepted q = cond-true _ _ (eq-eqb _ 0 (table-exact p (length ts) (length ks) (length ms) room .1 q))
 
 -- ---- the column
 

@@ -7,15 +7,13 @@ use mathlib.Core.Logic.{⊎-elim}
 use mathlib.Core.List.{List, _++_}
 use lib.ListN.{length, take, drop, length-append}
 use lib.Seq.{length-take-le, take-at}
-use borrow.Author.Tests.{eq-eqb}
-use Rattle.lists.proofs.Testing.{cond-true}
 use Rattle.rule.specs.State.{fresh}
 use Rattle.rule.specs.Table.{Outcome, refused, finished, completions, outcomeFrom}
-use Rattle.rule.specs.Table.{rows, tableFrom, table, written}
+use Rattle.rule.specs.Table.{rows, table, written}
 use Rattle.rule.specs.declared.Setup.{Setup}
 use Rattle.laws.specs.Rows.{Tabled}
 use Rattle.rule.proofs.Table.{length-rows}
-use Rattle.laws.proofs.Tables.{calls-outcome, completions-length, table-exact}
+use Rattle.laws.proofs.Tables.{calls-outcome, completions-length, table-accepted}
 use Rattle.table.specs.Answers.{Answers, answerOf}
 use Rattle.table.specs.declared.TableAnswer.{TableAnswer}
 use Rattle.table.specs.declared.TableAnswer.the-variants.{Finished, Refused}
@@ -31,8 +29,7 @@ module _ (p : Setup) (ts ks ms : List ℕ) (tabled : Tabled p (length ts) (lengt
   -- ---- columns that fit
 
   table-is : table p ts ks ms 1_024 ≡ o
-  unfolding table tableFrom
-  table-is = cond-true _ _ (eq-eqb _ 0 (table-exact p (length ts) (length ks) (length ms) 1_024 .1 tabled))
+  table-is = table-accepted p ts ks ms 1_024 tabled
 
   -- ---- the result column
 
