@@ -40,9 +40,9 @@ module _ (ks last done noted : List ℕ) where
   abbrev put : List ℕ → ℕ → List ℕ
   put before n = rows n ++ drop n before
 
-  pub put-length : (before after : List ℕ) (n : ℕ) → after ≡ put before n → n ≤ length before
+  pub length-put : (before after : List ℕ) (n : ℕ) → after ≡ put before n → n ≤ length before
       → length after ≡ length before
-  put-length before after n e h =
+  length-put before after n e h =
       omega (arith, ap length e, length-append (rows n) (drop n before), length-drop n before, length-settled n)
 
   put-next : (before : List ℕ) (n : ℕ) → n < length before → set (put before n) n (row n) ≡ put before (n + 1)

@@ -213,7 +213,8 @@ module _ {ts ks ms : List ℕ} {s₀ s : State} {last noted : List ℕ} {i n : �
     unfolding completion
     column =
         let done = drained s .done in
-        let many : length D ≡ length ks = completions-length s₀ ts ks ms ∙ length-rows ts ks ms sameK sameM ∙ sym sameK in
+        let many : length D ≡ length ks =
+        completions-length s₀ ts ks ms ∙ length-rows ts ks ms sameK sameM ∙ sym sameK in
         ext-getD 0 D (settledColumn ks last done noted)
         (many ∙ sym (length-settled ks last done noted (length ks)))
         (λ j g.
