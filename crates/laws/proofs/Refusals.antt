@@ -191,3 +191,11 @@ effect-advance s t = refl
 pub effect-drain : (s : State) → effect s drain ≡ drained s
 unfolding effect
 effect-drain s = refl
+
+pub refusal-request : (s : State) (t k a : ℕ) → refusal s (request t k a) ≡ requestRefusal s t k a
+unfolding refusal
+refusal-request s t k a = refl
+
+pub effect-request : (s : State) (t k a : ℕ) → effect s (request t k a) ≡ opened (moved s t) k a
+unfolding effect
+effect-request s t k a = refl

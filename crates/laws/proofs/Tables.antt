@@ -7,8 +7,8 @@ use mathlib.Core.Logic.{_⊎_, inl, inr, ⊎-elim, _↔_}
 use mathlib.Core.List.{List, [], _∷_, _++_}
 use lib.Dec.{eqb}
 use lib.ListN.{length, take, drop, length-append, length-drop, List·getD-append}
-use lib.Seq.{getD-drop, getD-append-add}
-use borrow.Author.Tests.{eqb-true, eqb-false, ltb-false, eq-eqb, le-ltb}
+use lib.Seq.{getD-drop, getD-append-add, drop-at}
+use borrow.Author.Tests.{eqb-true, eqb-false, ltb-false, eq-eqb, ne-eqb, le-ltb}
 use Rattle.lists.specs.Lists.{at}
 use Rattle.lists.proofs.Testing.{tested, cond-true, cond-false, and-true, passed, passed-not}
 use Rattle.lists.proofs.Totals.{at-set-same}
@@ -40,10 +40,13 @@ table-tabled p times tasks amounts room e =
     let p3 = passed _ 21 _ (p2 .1) in
     let lengths = and-true (eqb tasks times) (eqb amounts times) (p1 .0) in
     record {
-      setup = eqb-true (setupRefusal p) 0 f;
-      tasks-equal = eqb-true tasks times (lengths .0);
-      amounts-equal = eqb-true amounts times (lengths .1);
-      few = ltb-false mostRows times (p2 .0);
+      fitted =
+          record {
+            setup = eqb-true (setupRefusal p) 0 f;
+            tasks-equal = eqb-true tasks times (lengths .0);
+            amounts-equal = eqb-true amounts times (lengths .1);
+            few = ltb-false mostRows times (p2 .0);
+          };
       fits = ltb-false room times (p3 .0);
     })
     (λ f. absurd (eqb-false (setupRefusal p) 0 f (rw f at e)))
@@ -54,13 +57,23 @@ unfolding tableRefusal columnRefusal
 table-exact p times tasks amounts room = (
   table-tabled p times tasks amounts room,
   λ h. rw (
-    eq-eqb (setupRefusal p) 0 (h .setup),
-    eq-eqb tasks times (h .tasks-equal),
-    eq-eqb amounts times (h .amounts-equal),
-    le-ltb mostRows times (h .few),
+    eq-eqb (setupRefusal p) 0 (h .fitted .setup),
+    eq-eqb tasks times (h .fitted .tasks-equal),
+    eq-eqb amounts times (h .fitted .amounts-equal),
+    le-ltb mostRows times (h .fitted .few),
     le-ltb room times (h .fits),
   ),
 )
+
+pub tableRefusal-setup : (p : Setup) (times tasks amounts room : ℕ) → (setupRefusal p ≡ 0 → ⊥)
+    → tableRefusal p times tasks amounts room ≡ setupRefusal p
+unfolding tableRefusal
+tableRefusal-setup p times tasks amounts room z = cond-false _ _ (ne-eqb (setupRefusal p) 0 z)
+
+pub tableRefusal-columns : (p : Setup) (times tasks amounts room : ℕ) → setupRefusal p ≡ 0
+    → tableRefusal p times tasks amounts room ≡ columnRefusal times tasks amounts room
+unfolding tableRefusal
+tableRefusal-columns p times tasks amounts room z = cond-true _ _ (eq-eqb (setupRefusal p) 0 z)
 
 -- ---- the outcome
 
@@ -138,6 +151,18 @@ unfolding table
 table-outcome p ts ks ms room =
     from-outcome (tableRefusal p (length ts) (length ks) (length ms) room) p (rows ts ks ms)
 
+-- refused before the rows, or the outcome of the rows
+module _ (p : Setup) (ts ks ms : List ℕ) (room : ℕ) where
+  pub table-refused : (n : ℕ) → tableRefusal p (length ts) (length ks) (length ms) room ≡ n → (n ≡ 0 → ⊥)
+      → table p ts ks ms room ≡ refused n 0
+  unfolding table tableFrom
+  table-refused n e z = ap (λ (m : ℕ). tableFrom m p (rows ts ks ms)) e ∙ cond-false _ _ (ne-eqb n 0 z)
+
+  pub table-accepted : Tabled p (length ts) (length ks) (length ms) room
+      → table p ts ks ms room ≡ outcomeFrom (fresh p) (rows ts ks ms)
+  unfolding table tableFrom
+  table-accepted q = cond-true _ _ (eq-eqb _ 0 (table-exact p (length ts) (length ks) (length ms) room .1 q))
+
 -- ---- the column
 
 -- one entry a row, so that the column keeps its length
@@ -168,6 +193,22 @@ written-past ts end column i h =
     ∙ getD-append-add ts (drop (length ts) column) (i - length ts) 0
     ∙ getD-drop (length ts) column (i - length ts) 0
     ∙ ap (at column) (sym e)
+
+-- an outcome whose rows are counted writes just these, and a refusal nothing
+pub written-finished : (ts : List ℕ) (end : ℕ) (column : List ℕ) (n : ℕ) → length ts ≡ n
+    → written (finished ts end) column ≡ ts ++ drop n column
+unfolding written
+written-finished ts end column n e = ap (λ (m : ℕ). ts ++ drop m column) e
+
+pub written-refused : (n i : ℕ) (column : List ℕ) → written (refused n i) column ≡ column
+unfolding written
+written-refused n i column = refl
+
+-- entries past the rows stay
+pub drop-written : (ts : List ℕ) (end : ℕ) (column : List ℕ)
+    → drop (length ts) (written (finished ts end) column) ≡ drop (length ts) column
+unfolding written
+drop-written ts end column = drop-at ts (drop (length ts) column) (length ts) refl
 
 -- ---- what an entry is
 

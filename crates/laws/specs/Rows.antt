@@ -11,12 +11,16 @@ use Rattle.rule.specs.Table.{Outcome, refused, finished, completions, mostRows}
 use Rattle.rule.specs.declared.Setup.{Setup}
 use Rattle.laws.specs.Sequences.{AllAccepted}
 
--- "Table: 1 to 4, then 20, 21, 22": none of them holds, by the columns' lengths and that of the result column.
-pub record Tabled (p : Setup) (times tasks amounts room : ℕ) : Type 0 where
+-- "Table: 1 to 4, then 20, 21": none of them holds, by the columns' lengths.
+pub record Fitted (p : Setup) (times tasks amounts : ℕ) : Type 0 where
   pub setup : setupRefusal p ≡ 0
   pub tasks-equal : tasks ≡ times
   pub amounts-equal : amounts ≡ times
   pub few : times ≤ mostRows
+
+-- nor 22, by the length of the result column
+pub record Tabled (p : Setup) (times tasks amounts room : ℕ) : Type 0 where
+  pub fitted : Fitted p times tasks amounts
   pub fits : times ≤ room
 
 -- "the first such row": the call at place i, from 0, is refused with n, and all before it are accepted.

@@ -1,5 +1,5 @@
--- Laws of the queue's array as a list. In order: the ring; the ring put straight; one task more; a task taken out at
--- its place. Assumes nothing.
+-- Laws of the queue's array as a list. In order: the ring; the ring put straight; a task taken out at its place.
+-- Assumes nothing.
 use Prim.Native.Nat.{ℕ, zero, suc, _+_, _-_, _≤_, _<_}
 use native.Mathlib.Omega.{arith}
 use native.Mathlib.Numerals.{add-one}
@@ -7,9 +7,8 @@ use mathlib.Core.Path.{_≡_, sym, ap, _∙_}
 use mathlib.Core.Bool.{cond}
 use mathlib.Core.List.{List, [], _∷_, _++_, append-assoc, append-nil}
 use lib.ListN.{length, take, drop, set, replicate, length-append, length-drop, take-append-drop}
-use lib.ListN.{replicate-append-replicate}
 use lib.Seq.{take-suc, take-length, take-take, take-at, take-append-le, take-append-add, length-take-le}
-use lib.Seq.{drop-cons, drop-length, drop-drop, drop-at, drop-append-le, drop-append-add, drop-set-lt, getD-drop}
+use lib.Seq.{drop-cons, drop-length, drop-drop, drop-at, drop-append-le, drop-append-add, getD-drop}
 use lib.Seq.{set-at}
 use lib.Seq.{slice-cons, length-slice, paste, paste-zero, length-paste, take-paste, drop-paste}
 use lib.Dec.{eqb, ltb}
@@ -20,6 +19,7 @@ use Rattle.lists.proofs.Counting.{times-append}
 use Rattle.lists.proofs.Places.{drop-take, paste-next, length-zero, below-append, below-take, below-drop}
 use Rattle.rule.specs.Tick.{headBack}
 use Rattle.line.specs.Places.{ring, takenOut}
+pub use Rattle.lists.proofs.Places.{clear-set, clear-behind}
 
 -- ---- the ring
 
@@ -93,16 +93,6 @@ paste-straight h n q b l =
     ∙ ap (λ (x : List ℕ). x ++ take h q ++ drop n q) (f ∙ sym (drop-take h n q b))
     ∙ ap (λ (x : List ℕ). drop h (take n q) ++ x ++ drop n q) (sym (take-take h n q b))
 
--- ---- one task more
-
-pub clear-set : (n k : ℕ) (q : List ℕ) → n < 32 → drop n q ≡ replicate (32 - n) 0
-    → drop (n + 1) (set q n k) ≡ replicate (32 - (n + 1)) 0
-clear-set n k q b z =
-    let m : 32 - n ≡ suc (32 - (n + 1)) = omega arith in
-    drop-set-lt (n + 1) q n k (omega arith)
-    ∙ sym (drop-drop 1 n q)
-    ∙ ap (drop 1) (z ∙ ap (λ (j : ℕ). replicate j 0) m)
-
 -- ---- a task taken out
 
 pub below-takenOut : (m h : ℕ) (q : List ℕ) → Below m q → Below m (takenOut h q)
@@ -127,13 +117,6 @@ length-takenOut h q b =
 -- those behind place h have moved up as far as to place k
 abbrev pub MovedUp : ℕ → List ℕ → ℕ → List ℕ → Type 0
 MovedUp h q k x = x ≡ paste q h (drop (h + 1) q) (k - h)
-
-clear-behind : (q : List ℕ) (n : ℕ) → drop n q ≡ replicate (32 - n) 0 → 0 ∷ drop n q ≡ drop n q ++ 0 ∷ []
-clear-behind q n z =
-    ap (λ (y : List ℕ). 0 ∷ y) z
-    ∙ ap (λ (y : ℕ). replicate y 0) (sym (add-one (32 - n)))
-    ∙ sym (replicate-append-replicate (32 - n) 1 0)
-    ∙ ap (λ (y : List ℕ). y ++ 0 ∷ []) (sym z)
 
 module _ {h : ℕ} (b : h < 32) (q : List ℕ) (w : length q ≡ 32) where
   pub movedUp-start : MovedUp h q h q

@@ -1,4 +1,3 @@
-pub mod Copying
 pub mod Counting
 pub mod Places
 pub mod Testing

@@ -1,13 +1,13 @@
 -- Laws of lists by their places. In order: a stretch of a list; a copy into a list; entries below a number; a number
--- taken out at its place. Assumes nothing.
+-- taken out at its place; zeros behind a place. Assumes nothing.
 use Prim.Native.Nat.{ℕ, zero, suc, _+_, _-_, _≤_, _<_}
 use native.Mathlib.Omega.{arith}
 use native.Mathlib.Numerals.{add-one}
 use native.Mathlib.Nat.{not-suc-le-zero, le-of-suc-le-suc}
 use mathlib.Core.Path.{_≡_, refl, sym, ap, _∙_}
 use mathlib.Core.List.{List, [], _∷_, _++_}
-use lib.ListN.{length, set, take, drop, length-drop}
-use lib.Seq.{take-nil, getD-drop, paste, paste-suc}
+use lib.ListN.{length, set, take, drop, replicate, length-drop, replicate-append-replicate}
+use lib.Seq.{take-nil, getD-drop, drop-drop, drop-set-lt, paste, paste-suc}
 use borrow.Author.Tests.{ne-eqb}
 use Rattle.lists.specs.Lists.{at, Below, times, without}
 use Rattle.lists.proofs.Testing.{equal-or, eqb-same}
@@ -81,3 +81,20 @@ without-place (x ∷ xs) (suc p) h e =
     let other : k ≡ x → ⊥ = λ f. omega (arith, same-equal k x f) in
     rw (ne-eqb k x other)
     (ap (λ (ys : List ℕ). x ∷ ys) (without-place xs p (le-of-suc-le-suc h) (omega (arith, same-other k x other))))
+
+-- ---- zeros behind a place, as far as to place 32
+
+pub clear-set : (n k : ℕ) (q : List ℕ) → n < 32 → drop n q ≡ replicate (32 - n) 0
+    → drop (n + 1) (set q n k) ≡ replicate (32 - (n + 1)) 0
+clear-set n k q b z =
+    let m : 32 - n ≡ suc (32 - (n + 1)) = omega arith in
+    drop-set-lt (n + 1) q n k (omega arith)
+    ∙ sym (drop-drop 1 n q)
+    ∙ ap (drop 1) (z ∙ ap (λ (j : ℕ). replicate j 0) m)
+
+pub clear-behind : (q : List ℕ) (n : ℕ) → drop n q ≡ replicate (32 - n) 0 → 0 ∷ drop n q ≡ drop n q ++ 0 ∷ []
+clear-behind q n z =
+    ap (λ (y : List ℕ). 0 ∷ y) z
+    ∙ ap (λ (y : ℕ). replicate y 0) (sym (add-one (32 - n)))
+    ∙ sym (replicate-append-replicate (32 - n) 1 0)
+    ∙ ap (λ (y : List ℕ). y ++ 0 ∷ []) (sym z)

@@ -28,6 +28,7 @@ pub enum Next {
     Nothing,
 }
 
+// The clock, in ticks since the start.
 pub fn clock(run: Run) -> u32
     ensures { λ r. ⌜ r ≡ view run .clock ⌝ }
 {
@@ -82,6 +83,7 @@ pub fn given(run: Run, task: u32) -> TaskTicks
     entry_of(setup.count, column, task)
 }
 
+// A completion at an instant; 0 stands for none.
 fn completion_at(done: u32) -> Completion
     ensures { λ r. ⌜ completionTold r ≡ cond (eqb done 0) never (value done) ⌝ }
 {

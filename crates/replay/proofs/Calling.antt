@@ -10,12 +10,12 @@ use Rattle.laws.proofs.Refusals.{refused-stays, accepted-acts}
 pub shows-then : {r : Run} {s t : State} → Shows r s → s ≡ t → Shows r t
 shows-then h e = record { tidy = h .tidy; shown = h .shown ∙ e }
 
-pub refused-promised : (run : Run) (c : Call) (n m : ℕ) → n ≡ m → m ≡ refusal (view run) c → (m ≡ 0 → ⊥)
+pub refused-promised : {run : Run} (c : Call) {n m : ℕ} → n ≡ m → m ≡ refusal (view run) c → (m ≡ 0 → ⊥)
     → Shows run (view run) → Promised run c n run
-refused-promised run c n m f e z h =
+refused-promised {run} c f e z h =
     record { answer = f ∙ e; run = shows-then h (sym (refused-stays (view run) c (λ y. z (e ∙ y)))) }
 
-pub accepted-promised : (run : Run) (c : Call) (r : Run) → refusal (view run) c ≡ 0 → Shows r (effect (view run) c)
+pub accepted-promised : {run : Run} (c : Call) {r : Run} → refusal (view run) c ≡ 0 → Shows r (effect (view run) c)
     → Promised run c 0 r
-accepted-promised run c r e h =
+accepted-promised {run} c e h =
     record { answer = sym e; run = shows-then h (sym (accepted-acts (view run) c e)) }

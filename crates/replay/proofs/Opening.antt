@@ -8,13 +8,14 @@ use mathlib.Core.List.{List}
 use lib.ListN.{length, set, take, length-set}
 use lib.Seq.{length-take-le, take-suc-set}
 use Rattle.lists.specs.Lists.{at}
+use Rattle.lists.proofs.Places.{clear-set}
 use Rattle.rule.specs.State.{State}
-use Rattle.rule.specs.Calls.{moved, opened, request, refusal, effect}
+use Rattle.rule.specs.Calls.{moved, opened, request, requestRefusal, refusal, effect}
 use Rattle.rule.specs.View.{view, Tidy, Shows}
 use Rattle.rule.specs.declared.Run.{Run}
 use Rattle.laws.specs.Sound.{Sound}
+use Rattle.laws.proofs.Refusals.{refusal-request, effect-request}
 use Rattle.laws.proofs.Made.{queue-room}
-use Rattle.line.proofs.Rings.{clear-set}
 use Rattle.requests.specs.Early.{earlyRefusal}
 use Rattle.requests.proofs.Early.{refusal-now, refusal-open, refusal-none}
 use Rattle.replay.proofs.Calling.{shows-then}
@@ -63,11 +64,9 @@ opened-shows r k a T b =
 
 -- ---- the refusals
 
-module _ (s : State) (t k a : ℕ) where
-  pub early-number : (earlyRefusal (s .setup .count) (s .clock) t k a ≡ 0 → ⊥)
-      → earlyRefusal (s .setup .count) (s .clock) t k a ≡ refusal s (request t k a)
-  unfolding refusal
-  early-number h = sym (refusal-now s t k a h)
+pub early-number : (s : State) (t k a : ℕ) → (earlyRefusal (s .setup .count) (s .clock) t k a ≡ 0 → ⊥)
+    → earlyRefusal (s .setup .count) (s .clock) t k a ≡ refusal s (request t k a)
+early-number s t k a h = sym (refusal-request s t k a ∙ refusal-now s t k a h)
 
 -- the run r after the move of the clock
 module _ (s : State) (t k a : ℕ) (e : earlyRefusal (s .setup .count) (s .clock) t k a ≡ 0) (r : Run)
@@ -76,12 +75,13 @@ module _ (s : State) (t k a : ℕ) (e : earlyRefusal (s .setup .count) (s .clock
   owed-moved = ap (λ (x : State). at (x .owed) k) (R .shown)
 
   pub open-number : 0 < at (r .owed) k → 14 ≡ refusal s (request t k a)
-  unfolding refusal
-  open-number h = sym (refusal-open s t k a e (omega (arith, owed-moved)))
+  open-number h = sym (refusal-request s t k a ∙ refusal-open s t k a e (omega (arith, owed-moved)))
+
+  none : at (r .owed) k ≡ 0 → requestRefusal s t k a ≡ 0
+  none z = refusal-none s t k a e (sym owed-moved ∙ z)
 
   pub taken-number : at (r .owed) k ≡ 0 → refusal s (request t k a) ≡ 0
-  unfolding refusal
-  taken-number z = refusal-none s t k a e (sym owed-moved ∙ z)
+  taken-number z = refusal-request s t k a ∙ none z
 
   -- ---- what it leaves
 
@@ -91,8 +91,7 @@ module _ (s : State) (t k a : ℕ) (e : earlyRefusal (s .setup .count) (s .clock
       let l = length-take-le (r .queued) (r .queue) (omega (arith, R .tidy .fits, R .tidy .whole)) in
       let m : length (take (r .queued) (r .queue)) ≡ length (moved s t .queue) =
       ap (λ (x : State). length (x .queue)) (R .shown) in
-      omega (arith, queue-room s t k a S (refusal-none s t k a e (sym owed-moved ∙ z)))
+      omega (arith, queue-room s t k a S (none z))
 
   pub taken-shows : (after : Run) → Shows after (opened (view r) k a) → Shows after (effect s (request t k a))
-  unfolding effect
-  taken-shows after h = shows-then h (ap (λ (x : State). opened x k a) (R .shown))
+  taken-shows after h = shows-then h (ap (λ (x : State). opened x k a) (R .shown) ∙ sym (effect-request s t k a))

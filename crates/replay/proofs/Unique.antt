@@ -26,8 +26,8 @@ setupAnswer n =
     (cond (eqb n 2) setup.WrongCount
     (cond (eqb n 3) setup.WrongSlice setup.WrongPriorities)))
 
-pub setup-number-unique : (n : ℕ) → Determined (λ (a : SetupAnswer). setupNumber a ≡ n)
-setup-number-unique = by-inverse setupNumber setupAnswer again
+pub setup-number-determined : (n : ℕ) → Determined (λ (a : SetupAnswer). setupNumber a ≡ n)
+setup-number-determined = by-inverse setupNumber setupAnswer again
   where
     again : (a : SetupAnswer) → setupAnswer (setupNumber a) ≡ a
     again setup.Accepted = refl
@@ -44,8 +44,8 @@ callAnswer n =
     (cond (eqb n 12) call.NoSuchTask
     (cond (eqb n 13) call.WrongAmount call.StillOpen))))
 
-pub call-number-unique : (n : ℕ) → Determined (λ (a : CallAnswer). callNumber a ≡ n)
-call-number-unique = by-inverse callNumber callAnswer again
+pub call-number-determined : (n : ℕ) → Determined (λ (a : CallAnswer). callNumber a ≡ n)
+call-number-determined = by-inverse callNumber callAnswer again
   where
     again : (a : CallAnswer) → callAnswer (callNumber a) ≡ a
     again call.Accepted = refl
@@ -60,7 +60,7 @@ call-number-unique = by-inverse callNumber callAnswer again
 pub setup-determined : (p : Setup) → Determined (λ (r : Start). Started p (setupNumber (r .answer)) (r .run))
 setup-determined p x y a b =
     λ i. record {
-      answer = setup-number-unique _ (x .answer) (y .answer) (a .answer) (b .answer) i;
+      answer = setup-number-determined _ (x .answer) (y .answer) (a .answer) (b .answer) i;
       run = shows-determined _ (x .run) (y .run) (a .run) (b .run) i;
     }
 
@@ -68,6 +68,6 @@ pub call-determined : (run : Run) (c : Call)
     → Determined (λ (r : Moved). Promised run c (callNumber (r .answer)) (r .run))
 call-determined run c x y a b =
     λ i. record {
-      answer = call-number-unique _ (x .answer) (y .answer) (a .answer) (b .answer) i;
+      answer = call-number-determined _ (x .answer) (y .answer) (a .answer) (b .answer) i;
       run = shows-determined _ (x .run) (y .run) (a .run) (b .run) i;
     }

@@ -4,9 +4,11 @@ ghost use mathlib.Core.Path.{_≡_};
 ghost use Prim.Native.Nat.{_≤_, _<_};
 ghost use Rattle.rule.specs.Calls.{moved, opened, request, advance, drain};
 ghost use Rattle.rule.specs.View.{view, Tidy, MadeRun, Shows, Promised};
+ghost use Rattle.laws.specs.Drains.{lastClock};
 ghost use Rattle.laws.specs.Sound.{Sound};
 ghost use Rattle.replay.specs.Answers.{callNumber};
 
+// A call's answer: accepted, or why it is refused.
 pub enum CallAnswer {
     Accepted,
     TimePastLimit,
@@ -16,6 +18,7 @@ pub enum CallAnswer {
     StillOpen,
 }
 
+// A call's answer, and the run after it.
 pub struct Moved {
     pub answer: CallAnswer,
     pub run: Run,
@@ -43,7 +46,7 @@ fn moved_to(run: Run, time: u32) -> Run
     requires { ⌜ Tidy run ⌝ }
     requires { ⌜ Sound (view run) ⌝ }
     requires { ⌜ run .clock ≤ time ⌝ }
-    requires { ⌜ time ≤ 4_032_000_000 ⌝ }
+    requires { ⌜ time ≤ lastClock ⌝ }
     ensures { λ r. ⌜ Shows r (moved (view run) time) ⌝ }
 {
     let s = run.setup;
@@ -72,7 +75,7 @@ fn opened_by(run: Run, task: u8, amount: u32) -> Run
     next
 }
 
-// Moves the clock to the time and opens the task.
+// Moves the clock to the time and opens the task; a refusal leaves the very run.
 pub fn request(run: Run, time: u32, task: u32, amount: u32) -> Moved
     requires { ⌜ MadeRun run ⌝ }
     ensures { λ r. ⌜ Promised run (request time task amount) (callNumber (r .answer)) (r .run) ⌝ }
@@ -96,7 +99,7 @@ pub fn request(run: Run, time: u32, task: u32, amount: u32) -> Moved
     Moved { answer, run: after }
 }
 
-// Moves the clock to the time.
+// Moves the clock to the time; a refusal leaves the very run.
 pub fn advance(run: Run, time: u32) -> Moved
     requires { ⌜ MadeRun run ⌝ }
     ensures { λ r. ⌜ Promised run (advance time) (callNumber (r .answer)) (r .run) ⌝ }

@@ -7,6 +7,7 @@ ghost use Rattle.rule.specs.State.{fresh};
 ghost use Rattle.rule.specs.View.{Shows, Started};
 ghost use Rattle.replay.specs.Answers.{setupNumber};
 
+// A setup's answer: accepted, or why it is refused.
 pub enum SetupAnswer {
     Accepted,
     WrongPolicy,
@@ -15,6 +16,7 @@ pub enum SetupAnswer {
     WrongPriorities,
 }
 
+// A setup's answer, and the run that it gives.
 pub struct Start {
     pub answer: SetupAnswer,
     pub run: Run,

@@ -25,10 +25,13 @@ module _ (log : List ℕ) (h : Reads log) where
     filled-tabled =
         rw (ep, et, ek, em)
         record {
-          setup = accepted-setup log h;
-          tasks-equal = column-same log h 1 0;
-          amounts-equal = column-same log h 2 0;
-          few = column-most 0 log h;
+          fitted =
+              record {
+                setup = accepted-setup log h;
+                tasks-equal = column-same log h 1 0;
+                amounts-equal = column-same log h 2 0;
+                few = column-most 0 log h;
+              };
           fits = column-most 0 log h;
         }
 

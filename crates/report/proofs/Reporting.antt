@@ -7,15 +7,13 @@ use mathlib.Core.Logic.{⊎-elim}
 use mathlib.Core.List.{List, _++_}
 use lib.ListN.{length, take, drop, length-append}
 use lib.Seq.{length-take-le, take-at}
-use borrow.Author.Tests.{eq-eqb}
-use Rattle.lists.proofs.Testing.{cond-true}
 use Rattle.rule.specs.State.{fresh}
 use Rattle.rule.specs.Table.{Outcome, refused, finished, completions, outcomeFrom}
-use Rattle.rule.specs.Table.{rows, tableFrom, table, written}
+use Rattle.rule.specs.Table.{rows, table, written}
 use Rattle.rule.specs.declared.Setup.{Setup}
 use Rattle.laws.specs.Rows.{Tabled}
 use Rattle.rule.proofs.Table.{length-rows}
-use Rattle.laws.proofs.Tables.{calls-outcome, completions-length, table-exact}
+use Rattle.laws.proofs.Tables.{calls-outcome, completions-length, table-accepted}
 use Rattle.table.specs.Answers.{Answers, answerOf}
 use Rattle.table.specs.declared.TableAnswer.{TableAnswer}
 use Rattle.table.specs.declared.TableAnswer.the-variants.{Finished, Refused}
@@ -31,8 +29,7 @@ module _ (p : Setup) (ts ks ms : List ℕ) (tabled : Tabled p (length ts) (lengt
   -- ---- columns that fit
 
   table-is : table p ts ks ms 1_024 ≡ o
-  unfolding table tableFrom
-  table-is = cond-true _ _ (eq-eqb _ 0 (table-exact p (length ts) (length ks) (length ms) 1_024 .1 tabled))
+  table-is = table-accepted p ts ks ms 1_024 tabled
 
   -- ---- the result column
 
@@ -43,7 +40,7 @@ module _ (p : Setup) (ts ks ms : List ℕ) (tabled : Tabled p (length ts) (lengt
       let same : completions (fresh p) (rows ts ks ms) ≡ ds = first (w .1) in
       ap length (sym same)
       ∙ completions-length (fresh p) ts ks ms
-      ∙ length-rows ts ks ms (tabled .tasks-equal) (tabled .amounts-equal))
+      ∙ length-rows ts ks ms (tabled .fitted .tasks-equal) (tabled .fitted .amounts-equal))
       (λ w. absurd (other (w .3)))
       (calls-outcome (fresh p) (rows ts ks ms))
     where
@@ -120,10 +117,10 @@ module _ (p : Setup) (ts ks ms : List ℕ) (tabled : Tabled p (length ts) (lengt
       after-columns : Columns ks ts ms (take (length ts) after)
       after-columns =
           record {
-            few = omega (arith, tabled .tasks-equal, tabled .few);
-            asked-too = sym (tabled .tasks-equal);
-            amounts-too = tabled .amounts-equal ∙ sym (tabled .tasks-equal);
-            done-too = sym after-part ∙ sym (tabled .tasks-equal);
+            few = omega (arith, tabled .fitted .tasks-equal, tabled .fitted .few);
+            asked-too = sym (tabled .fitted .tasks-equal);
+            amounts-too = tabled .fitted .amounts-equal ∙ sym (tabled .fitted .tasks-equal);
+            done-too = sym after-part ∙ sym (tabled .fitted .tasks-equal);
           }
 
       pub text-finished : columnsText ks ts ms (take (length ts) after) end ≡ tablePrinted ts ks ms o

@@ -1,5 +1,5 @@
 -- The refusals that are judged before the clock moves: which numbers they are, and what they show. In order: times;
--- requests, with the refusal after the move. Assumes nothing.
+-- requests; requests with the refusal after the move. Assumes nothing.
 use Prim.Native.Nat.{ℕ, _≤_, _<_}
 use native.Mathlib.Omega.{arith}
 use mathlib.Core.Path.{_≡_, refl, _∙_}
@@ -49,14 +49,6 @@ time-passed clock t e =
 abbrev four : Bool → Bool → Bool → Bool → ℕ → ℕ
 four a b c d n = cond a 10 (cond b 11 (cond c 12 (cond d 13 n)))
 
-judged : (a b c d e : Bool)
-    → four a b c d (cond e 14 0) ≡ cond (eqb (four a b c d 0) 0) (cond e 14 0) (four a b c d 0)
-judged true b c d e = refl
-judged false true c d e = refl
-judged false false true d e = refl
-judged false false false true e = refl
-judged false false false false e = refl
-
 four-between : (a b c d : Bool) → (four a b c d 0 ≡ 0 → ⊥) → (10 ≤ four a b c d 0) × (four a b c d 0 ≤ 13)
 four-between true b c d h = (omega arith, omega arith)
 four-between false true c d h = (omega arith, omega arith)
@@ -81,6 +73,16 @@ early-passed count clock t k a e =
       later = ltb-false t clock (p11 .0);
       task = leb-false count k (p12 .0);
     }
+
+-- ---- requests with the refusal after the move
+
+judged : (a b c d e : Bool)
+    → four a b c d (cond e 14 0) ≡ cond (eqb (four a b c d 0) 0) (cond e 14 0) (four a b c d 0)
+judged true b c d e = refl
+judged false true c d e = refl
+judged false false true d e = refl
+judged false false false true e = refl
+judged false false false false e = refl
 
 module _ (s : State) (t k a : ℕ) where
   abbrev pub early : ℕ

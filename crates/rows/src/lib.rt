@@ -3,12 +3,15 @@ use rule::Setup;
 ghost use mathlib.Core.Path.{_≡_};
 ghost use Prim.Native.Nat.{_≤_, _<_};
 ghost use mathlib.Core.Bool.{cond};
-ghost use lib.ListN.{length, set};
+ghost use mathlib.Core.List.{_++_};
+ghost use lib.ListN.{length, set, drop};
 ghost use lib.Dec.{eqb};
 ghost use Rattle.lists.specs.Lists.{at};
+ghost use Rattle.lists.specs.Lists.{Below};
 ghost use Rattle.rule.specs.State.{fresh};
-ghost use Rattle.rule.specs.Table.{rows};
-ghost use Rattle.rows.specs.Promises.{Fitting, Known, Runs, Writes};
+ghost use Rattle.rule.specs.Table.{rows, mostRows};
+ghost use Rattle.laws.specs.Rows.{Fitted};
+ghost use Rattle.rows.specs.Promises.{Runs, settledColumn};
 
 // The rows run: the refusal or 0; where they ended, by the row that was refused or by the clock after the drain; each
 // task's last row or 0; and each task's latest completion. Rows count from 1.
@@ -43,7 +46,8 @@ pub fn run_rows(
     amounts: &[u32],
     noted: &mut [u32],
 ) -> Ran
-    requires { ⌜ Fitting setup (now times) (now tasks) (now amounts) (now noted) ⌝ }
+    requires { ⌜ Fitted setup (length (now times)) (length (now tasks)) (length (now amounts)) ⌝ }
+    requires { ⌜ length (now times) < length (now noted) ⌝ }
     ensures { λ r. ⌜ Runs (fresh setup) (rows (now (times .entry)) (now (tasks .entry)) (now (amounts .entry)))
         (now (tasks .entry)) r (now (noted .entry)) (now (noted .exit)) ⌝ }
 {
@@ -102,7 +106,7 @@ fn one_of(last: u32, row: u32, done: u32, noted: u32) -> u32
     if last == row { done } else { noted }
 }
 
-// The completions are written.
+// The completions are written; the entries past the rows stay.
 pub fn put_result(
     tasks: &[u32],
     last: [u32; 32],
@@ -110,12 +114,12 @@ pub fn put_result(
     noted: &[u32],
     result: &mut [u32],
 )
-    requires { ⌜ length (now tasks) ≤ 1_024 ⌝ }
+    requires { ⌜ length (now tasks) ≤ mostRows ⌝ }
     requires { ⌜ length (now tasks) < length (now noted) ⌝ }
     requires { ⌜ length (now tasks) ≤ length (now result) ⌝ }
-    requires { ⌜ Known (now tasks) ⌝ }
-    ensures { λ _. ⌜ Writes (now (tasks .entry)) last done (now (noted .entry))
-        (now (result .entry)) (now (result .exit)) ⌝ }
+    requires { ⌜ Below 32 (now tasks) ⌝ }
+    ensures { λ _. ⌜ now (result .exit) ≡ settledColumn (now (tasks .entry)) last done (now (noted .entry))
+        ++ drop (length (now (tasks .entry))) (now (result .entry)) ⌝ }
 {
     let mut i: usize = 0;
     while i < tasks.len() {

@@ -38,6 +38,7 @@ fn zeros_from(bytes: &[u8], from: usize) -> bool
     true
 }
 
+// Whether a slice is as the policy asks.
 fn slice_fits(policy: u32, slice: u32) -> bool
     ensures { λ r. ⌜ r ≡ sliceFits policy slice ⌝ }
 {
@@ -47,6 +48,7 @@ fn slice_fits(policy: u32, slice: u32) -> bool
     is_within(1, 65_535, slice)
 }
 
+// Whether there are 32 bytes, each 0 that the policy and the count want to be 0.
 fn bytes_fit(policy: u32, count: u32, bytes: &[u8]) -> bool
     requires { ⌜ count ≤ 32 ⌝ }
     ensures { λ r. ⌜ r ≡ bytesFit policy count (now (bytes .entry)) ⌝ }
@@ -113,7 +115,7 @@ pub struct JudgedSetup {
     pub setup: Setup,
 }
 
-// JudgesSetup a setup and puts it together. Any numbers and any length of priorities are taken.
+// Judges a setup and puts it together. Any numbers and any length of priorities are taken.
 pub fn judged_setup(policy: u32, count: u32, slice: u32, priorities: &[u8]) -> JudgedSetup
     ensures { λ r. ⌜ JudgesSetup (asked policy count slice (now (priorities .entry))) r ⌝ }
 {

@@ -1,18 +1,16 @@
--- The refusals before the rows: what columns that fit have, and the three ways in which a table is answered.
--- Assumes nothing.
-use Prim.Native.Nat.{ℕ, _<_}
-use mathlib.Core.Path.{_≡_, refl, sym, ap, _∙_, subst}
+-- The three ways in which a table is answered. In order: refused before the rows, by its setup or by its columns;
+-- columns that fit. Assumes nothing.
+use Prim.Native.Nat.{ℕ}
+use mathlib.Core.Path.{_≡_, refl, sym, _∙_, subst}
 use mathlib.Core.List.{List}
 use lib.ListN.{length}
-use borrow.Author.Tests.{eq-eqb, ne-eqb}
-use Rattle.lists.proofs.Testing.{cond-true, cond-false}
 use Rattle.rule.specs.Setups.{setupRefusal}
 use Rattle.rule.specs.State.{fresh}
-use Rattle.rule.specs.Table.{Outcome, outcomeFrom, rows, columnRefusal, tableRefusal, tableFrom, table, written}
+use Rattle.rule.specs.Table.{Outcome, outcomeFrom, rows, columnRefusal, tableRefusal}
 use Rattle.rule.specs.declared.Setup.{Setup}
 use Rattle.laws.specs.Rows.{Tabled}
-use Rattle.laws.proofs.Tables.{table-tabled, table-exact}
-use Rattle.rows.specs.Promises.{Fitting}
+use Rattle.laws.proofs.Tables.{tableRefusal-setup, tableRefusal-columns, table-tabled, table-refused, table-accepted}
+use Rattle.laws.proofs.Tables.{written-refused}
 use Rattle.table.specs.Answers.{Answers, AnswersTable}
 use Rattle.table.specs.declared.TableAnswer.{TableAnswer}
 use Rattle.table.specs.declared.TableAnswer.the-variants.{Refused}
@@ -24,25 +22,21 @@ module _ (p : Setup) (ts ks ms before : List ℕ) where
   abbrev judged : ℕ
   judged = tableRefusal p (length ts) (length ks) (length ms) (length before)
 
-  judged-setup : (setupRefusal p ≡ 0 → ⊥) → judged ≡ setupRefusal p
-  unfolding tableRefusal
-  judged-setup z = cond-false _ _ (ne-eqb (setupRefusal p) 0 z)
-
   judged-columns : setupRefusal p ≡ 0 → judged ≡ misfit
-  unfolding tableRefusal
-  judged-columns z = cond-true _ _ (eq-eqb (setupRefusal p) 0 z)
+  judged-columns z = tableRefusal-columns p (length ts) (length ks) (length ms) (length before) z
 
   -- ---- refused before the rows
 
   refused-at : (n : ℕ) → judged ≡ n → (n ≡ 0 → ⊥) → AnswersTable p ts ks ms before (Refused n 0) before
-  unfolding table tableFrom written
   refused-at n e z =
       subst (λ (o : Outcome). Answers o before (Refused n 0) before)
-      (sym (ap (λ (m : ℕ). tableFrom m p (rows ts ks ms)) e ∙ cond-false _ _ (ne-eqb n 0 z)))
-      record { answer = refl; column = refl }
+      (sym (table-refused p ts ks ms (length before) n e z))
+      record { answer = refl; column = sym (written-refused n 0 before) }
 
   pub table-misset : (n : ℕ) → n ≡ setupRefusal p → (n ≡ 0 → ⊥) → AnswersTable p ts ks ms before (Refused n 0) before
-  table-misset n e z = refused-at n (judged-setup (λ y. z (e ∙ y)) ∙ sym e) z
+  table-misset n e z =
+      refused-at n
+      (tableRefusal-setup p (length ts) (length ks) (length ms) (length before) (λ y. z (e ∙ y)) ∙ sym e) z
 
   pub table-misfit : (n : ℕ) → setupRefusal p ≡ 0 → n ≡ misfit → (n ≡ 0 → ⊥)
       → AnswersTable p ts ks ms before (Refused n 0) before
@@ -65,20 +59,7 @@ module _ (p : Setup) (ts ks ms before : List ℕ) where
         → AnswersTable p ts ks ms before r after
     table-asked {r} {after} h = subst (λ (x : Setup). AnswersTable x ts ks ms before r after) e h
 
-  module _ (q : Tabled p (length ts) (length ks) (length ms) (length before)) where
-    pub columns-fitting : (noted : List ℕ) → length ts < length noted → Fitting p ts ks ms noted
-    columns-fitting noted h =
-        record {
-          accepted = q .setup;
-          tasks-too = q .tasks-equal;
-          amounts-too = q .amounts-equal;
-          few = q .few;
-          room = h;
-        }
-
-    pub table-runs : {r : TableAnswer} {after : List ℕ} → Answers (outcomeFrom (fresh p) (rows ts ks ms)) before r after
-        → AnswersTable p ts ks ms before r after
-    unfolding table tableFrom
-    table-runs {r} {after} h =
-        let none = table-exact p (length ts) (length ks) (length ms) (length before) .1 q in
-        subst (λ (o : Outcome). Answers o before r after) (sym (cond-true _ _ (eq-eqb judged 0 none))) h
+  pub table-runs : Tabled p (length ts) (length ks) (length ms) (length before) → {r : TableAnswer} {after : List ℕ}
+      → Answers (outcomeFrom (fresh p) (rows ts ks ms)) before r after → AnswersTable p ts ks ms before r after
+  table-runs q {r} {after} h =
+      subst (λ (o : Outcome). Answers o before r after) (sym (table-accepted p ts ks ms (length before) q)) h

@@ -15,7 +15,7 @@ use Rattle.replay.specs.declared.start.SetupAnswer.{SetupAnswer}
 use Rattle.replay.specs.declared.start.SetupAnswer.the-variants as setup
 use Rattle.replay.specs.declared.calls.CallAnswer.{CallAnswer}
 use Rattle.replay.specs.declared.calls.CallAnswer.the-variants as call
-use Rattle.replay.proofs.Unique.{setup-number-unique, call-number-unique, call-determined}
+use Rattle.replay.proofs.Unique.{setup-number-determined, call-number-determined, call-determined}
 use Rattle.tracker.specs.Restarted.{Restarted}
 
 -- ---- calls
@@ -31,7 +31,7 @@ pub call-in-refused : (before : Run) (c : Call) (answer : CallAnswer) (after : R
     → Promised before c (callNumber answer) after → (answer ≡ call.Accepted → ⊥) → after ≡ before
 call-in-refused before c answer after m p w =
     promised-refused before c (callNumber answer) after (m .tidy) p
-    (λ z. w (call-number-unique 0 answer call.Accepted z refl))
+    (λ z. w (call-number-determined 0 answer call.Accepted z refl))
 
 -- ---- setting up anew
 
@@ -40,7 +40,7 @@ pub setup-in-determined : (before : Run) (p : Setup)
 setup-in-determined before p x y a b = λ i. (answers i, runs i)
   where
     answers : x .0 ≡ y .0
-    answers = setup-number-unique _ (x .0) (y .0) (a .answer) (b .answer)
+    answers = setup-number-determined _ (x .0) (y .0) (a .answer) (b .answer)
 
     runs : x .1 ≡ y .1
     runs =
@@ -51,4 +51,4 @@ setup-in-determined before p x y a b = λ i. (answers i, runs i)
 pub setup-in-refused : (before : Run) (p : Setup) (answer : SetupAnswer) (after : Run)
     → Restarted before p (setupNumber answer) after → (answer ≡ setup.Accepted → ⊥) → after ≡ before
 setup-in-refused before p answer after h w =
-    h .kept (λ e. w (setup-number-unique 0 answer setup.Accepted (h .answer ∙ e) refl))
+    h .kept (λ e. w (setup-number-determined 0 answer setup.Accepted (h .answer ∙ e) refl))

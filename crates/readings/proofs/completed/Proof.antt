@@ -7,7 +7,9 @@ use Rattle.readings.proofs.completed.Statement.{statement}
 use Rattle.readings.proofs.completed.Tie as tie
 
 returns : tie.Need-returns
-returns c = simp (le-leb _ _ (c .if1 .taken))
+returns c =
+    let a = c .before .before .before .before .args in
+    simp (le-leb (a .run .setup .count) (a .task) (omega arith))
 
 array-read-completion-at : tie.Need-array-read-completion-at
 array-read-completion-at c = omega (arith, made-few _ (c .before .before .before .before .pre))

@@ -2,8 +2,9 @@
 use mathlib.Core.Path.{_≡_}
 use mathlib.Core.Bool.{false, not, _&&_}
 use lib.Dec.{ltb, eqb}
+use native.Mathlib.Omega.{arith}
 use borrow.Author.Tests.{eq-eqb, ne-eqb, lt-ltb, le-ltb}
-use Rattle.rule.specs.Table.{columnRefusal}
+use Rattle.rule.specs.Table.{columnRefusal, mostRows}
 use Rattle.requests.proofs.column_refusal.Statement.{statement}
 use Rattle.requests.proofs.column_refusal.Tie as tie
 
@@ -15,9 +16,11 @@ start c = c .before .before
 equal : (c : tie.Else2)
     → not (eqb (start c .args .tasks) (start c .args .times) && eqb (start c .args .amounts) (start c .args .times))
     ≡ false
-equal c = simp (eq-eqb _ _ (c .before .if1 .left), eq-eqb _ _ (c .if2 .left))
+equal c =
+    let a = start c .args in
+    simp (eq-eqb (a .tasks) (a .times) (omega arith), eq-eqb (a .amounts) (a .times) (omega arith))
 
-few : (c : tie.Else3) → ltb 1_024 (start (c .before) .args .times) ≡ false
+few : (c : tie.Else3) → ltb mostRows (start (c .before) .args .times) ≡ false
 few c = le-ltb _ _ (c .if3 .left)
 
 returns : tie.Need-returns

@@ -20,7 +20,7 @@ abbrev start : tie.In-loop Inv-loop μ-loop → tie.Start Inv-loop μ-loop
 start c = c .before .before .before .before .before
 
 known : (c : tie.In-loop Inv-loop μ-loop) → at (start c .args .tasks .now) (c .before .loop .i) < 32
-known c = start c .pre .1 .1 .1 (c .before .loop .i) (c .loop-test .taken)
+known c = start c .pre .1 .1 .1 (c .before .loop .i)
 
 loop-holds : tie.Need-loop-holds Inv-loop μ-loop
 loop-holds c = putting-start _ _ _ _ _
@@ -43,14 +43,13 @@ array-read-one-of-2 c = known (c .before)
 loop-again : tie.Need-loop-again Inv-loop μ-loop
 loop-again c =
     let here = c .before .before .before in
-    putting-step _ _ _ _ _ _ _ (here .before .loop .inv) _ (c .one-of .ensures) (here .loop-test .taken)
-    (start here .pre .1 .1 .0)
+    putting-step (here .before .loop .inv) (c .one-of .ensures) (here .loop-test .taken) (start here .pre .1 .1 .0)
 
 same-length : tie.Need-same-length Inv-loop μ-loop
 same-length c = c .before .loop .inv .room
 
 returns : tie.Need-returns Inv-loop μ-loop
-returns c = putting-end _ _ _ _ _ _ _ (c .before .loop .inv) (c .loop-test .left)
+returns c = putting-end (c .before .loop .inv) (c .loop-test .left)
 
 pub put-result-spec : {M : Type 1} → statement M
 put-result-spec =

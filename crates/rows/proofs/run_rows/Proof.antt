@@ -1,18 +1,18 @@
--- `rows::run_rows` meets its contract. The invariant: `Going`, what is known of the parts and of every row's
+-- `rows::run_rows` meets its contract. The invariant: `RowsGoing`, what is known of the parts and of every row's
 -- completion after the first i rows. Assumes nothing.
 use Prim.Native.Nat.{_-_, _<_}
 use native.Mathlib.Omega.{arith}
 use lib.ListN.{length}
 use borrow.Author.Needs.{needs}
 use Rattle.lists.specs.Lists.{at}
-use Rattle.rows.proofs.Running.{Going, going-start, going-known, going-step}
+use Rattle.rows.proofs.Running.{RowsGoing, going-start, going-known, going-step}
 use Rattle.rows.proofs.Running.{going-refused, going-room, going-mark, going-end}
 use Rattle.rows.proofs.run_rows.Statement.{statement}
 use Rattle.rows.proofs.run_rows.Tie as tie
 
 abbrev Inv-loop : tie.InvT-loop
 Inv-loop p ts ks ms noted₀ q₀ o₀ g₀ d₀ last₀ cursor₀ i₀ noted q o g d last cursor i =
-    Going p ts ks ms noted₀ cursor q o g d last noted i
+    RowsGoing p ts ks ms noted₀ cursor q o g d last noted i
 
 abbrev μ-loop : tie.MeasureT-loop
 μ-loop p ts ks ms noted₀ q₀ o₀ g₀ d₀ last₀ cursor₀ i₀ noted q o g d last cursor i = length ts - i
@@ -31,11 +31,10 @@ here c = inside (c .before .before)
 -- the task of an accepted row
 known : (c : tie.Else1 Inv-loop μ-loop) → at (start (here c) .args .tasks .now) (here c .before .loop .i) < 32
 known c =
-    going-known (start (here c) .pre) (here c .before .loop .inv) (here c .loop-test .taken)
-    (c .before .before .ask .ensures) (c .if1 .left)
+    going-known (here c .before .loop .inv) (here c .loop-test .taken) (c .before .before .ask .ensures) (c .if1 .left)
 
 loop-holds : tie.Need-loop-holds Inv-loop μ-loop
-loop-holds c = going-start (c .before .before .before .before .pre .accepted)
+loop-holds c = going-start (c .before .before .before .before .pre .0 .setup)
 
 ask-requires : tie.Need-ask-requires Inv-loop μ-loop
 ask-requires c κs =
@@ -48,8 +47,9 @@ same-length c = inside (c .before .before) .before .loop .inv .rows .room
 returns : tie.Need-returns Inv-loop μ-loop
 returns c =
     let asking = c .before .before in
-    going-refused (start (inside asking) .pre) (inside asking .before .loop .inv) (inside asking .loop-test .taken)
-    (asking .ask .ensures) (c .if1 .taken) _
+    let h = inside asking in
+    going-refused (h .before .loop .inv) (h .loop-test .taken) (asking .ask .ensures) (c .if1 .taken)
+    (start h .pre .0) _
 
 cast-note : tie.Need-cast-note Inv-loop μ-loop
 cast-note c = omega (arith, known c)
@@ -58,26 +58,25 @@ note-requires : tie.Need-note-requires Inv-loop μ-loop
 note-requires c κs =
     let past = c .before .before .before in
     let h = here past in
-    (known past, going-mark (start h .pre) (h .before .loop .inv) _ (h .loop-test .taken))
+    (known past, going-mark (h .before .loop .inv) _ (h .loop-test .taken) (start h .pre .1))
 
 add-i : tie.Need-add-i Inv-loop μ-loop
 add-i c =
     let h = here (c .before .before .before .before .before .before .before) in
-    omega (arith, h .loop-test .taken, start h .pre .few)
+    omega (arith, h .loop-test .taken, start h .pre .0 .few)
 
 loop-again : tie.Need-loop-again Inv-loop μ-loop
 loop-again c =
     let noting = c .before .before .before in
     let past = noting .before .before .before .before in
     let h = here past in
-    going-step (start h .pre) (h .before .loop .inv) (h .loop-test .taken) (past .before .before .ask .ensures)
-    (past .if1 .left) (noting .note .ensures .0) (noting .note .ensures .1)
+    going-step (h .before .loop .inv) (h .loop-test .taken) (past .before .before .ask .ensures) (past .if1 .left)
+    (start h .pre .0) (start h .pre .1) (noting .note .ensures .0) (noting .note .ensures .1)
 
 drain-on-requires : tie.Need-drain-on-requires Inv-loop μ-loop
 drain-on-requires c κs =
-    let at-end = c .before .before .before .before .before in
-    let inv = at-end .loop .inv in
-    (inv .kept, (inv .sound, going-room (at-end .before .before .before .before .before .pre) inv))
+    let inv = c .before .before .before .before .before .loop .inv in
+    (inv .kept, (inv .sound, going-room inv))
 
 same-length-2 : tie.Need-same-length-2 Inv-loop μ-loop
 same-length-2 c = c .before .before .before .before .before .before .loop .inv .rows .room
@@ -85,8 +84,8 @@ same-length-2 c = c .before .before .before .before .before .before .loop .inv .
 returns-2 : tie.Need-returns-2 Inv-loop μ-loop
 returns-2 c =
     let ended = c .before .before .before .before .before in
-    going-end (ended .before .before .before .before .before .before .pre) (ended .before .loop .inv)
-    (ended .loop-test .left) (c .drain-on .ensures)
+    going-end (ended .before .loop .inv) (ended .loop-test .left)
+    (ended .before .before .before .before .before .before .pre .0) (c .drain-on .ensures)
 
 pub run-rows-spec : {M : Type 1} → statement M
 run-rows-spec =

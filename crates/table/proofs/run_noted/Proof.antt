@@ -1,7 +1,7 @@
 -- `table::run_noted` meets its contract: the rows are run, and then refused or written. Assumes nothing.
 use native.Mathlib.Omega.{arith}
-use denote.Ref.{now}
-use Rattle.table.proofs.Columns.{columns-fitting, table-runs}
+use Rattle.rows.proofs.Putting.{length-put}
+use Rattle.table.proofs.Columns.{table-runs}
 use Rattle.table.proofs.Answering.{answer-refused, answer-finished}
 use Rattle.table.proofs.run_noted.Statement.{statement}
 use Rattle.table.proofs.run_noted.Tie as tie
@@ -16,7 +16,7 @@ ran c = c .before .before .before .before .before .before .before .before .befor
 run-rows-requires : tie.Need-run-rows-requires
 run-rows-requires c κs =
     let s = c .before .before .before .before .before .before in
-    columns-fitting _ _ _ _ (now (s .args .result)) (s .pre .0) _ (s .pre .1)
+    (s .pre .0 .fitted, s .pre .1)
 
 same-length : tie.Need-same-length
 same-length c = c .before .before .before .before .run-rows .ensures .room
@@ -24,34 +24,34 @@ same-length c = c .before .before .before .before .run-rows .ensures .room
 returns : tie.Need-returns
 returns c =
     let rows = c .before .before .before .before in
-    table-runs _ _ _ _ _ (start rows .pre .0) (answer-refused _ _ _ _ _ _ (rows .run-rows .ensures) _ (c .if1 .taken))
+    table-runs _ _ _ _ _ (start rows .pre .0)
+    (answer-refused (rows .run-rows .ensures) (λ z. omega (arith, c .if1 .taken)))
 
 put-result-requires : tie.Need-put-result-requires
 put-result-requires c κs =
     let rows = c .before .before .before .before .before .before .before .before in
     let q = start rows .pre .0 in
-    let runs = rows .run-rows .ensures in (
-      omega (arith, q .tasks-equal, q .few),
-      (
-        omega (arith, q .tasks-equal, runs .room, start rows .pre .1),
-        (omega (arith, q .tasks-equal, q .fits), runs .taken (c .before .before .before .before .if1 .left) .known),
-      ),
+    let same = q .fitted .tasks-equal in
+    let runs = rows .run-rows .ensures in
+    let taken = runs .taken (omega (arith, c .before .before .before .before .if1 .left)) in (
+      omega (arith, same, q .fitted .few),
+      (omega (arith, same, runs .room, start rows .pre .1), (omega (arith, same, q .fits), taken .known)),
     )
 
 same-length-2 : tie.Need-same-length-2
 same-length-2 c = ran c .run-rows .ensures .room
 
 same-length-3 : tie.Need-same-length-3
-same-length-3 c = c .before .before .put-result .ensures .room
+same-length-3 c =
+    let q = start (ran c) .pre .0 in
+    length-put _ _ _ _ _ _ _ (c .before .before .put-result .ensures) (omega (arith, q .fitted .tasks-equal, q .fits))
 
 returns-2 : tie.Need-returns-2
 returns-2 c =
-    let q = start (ran c) .pre .0 in
     let past = c .before .before .before .before .before .before .before in
-    let put = c .before .before .put-result .ensures in
-    table-runs _ _ _ _ _ q
-    (answer-finished _ _ _ _ _ _ (ran c .run-rows .ensures) _ (past .if1 .left) _ put
-    (omega (arith, q .tasks-equal, q .fits)))
+    table-runs _ _ _ _ _ (start (ran c) .pre .0)
+    (answer-finished (ran c .run-rows .ensures) (omega (arith, past .if1 .left))
+    (c .before .before .put-result .ensures))
 
 pub run-noted-spec : {M : Type 1} → statement M
 run-noted-spec =

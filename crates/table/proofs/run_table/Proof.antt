@@ -15,7 +15,7 @@ returns c = c .before .before .before .run-noted .ensures
 run-noted-requires-2 : tie.Need-run-noted-requires-2
 run-noted-requires-2 c κs =
     let s = c .before .before .before .before .before .before .before in
-    (s .pre, omega (arith, s .pre .few))
+    (s .pre, omega (arith, s .pre .fitted .few))
 
 returns-2 : tie.Need-returns-2
 returns-2 c = c .before .before .before .run-noted2 .ensures

@@ -27,7 +27,7 @@ answer-of-requires c κs =
 returns : tie.Need-returns
 returns c =
     let s = c .before .before .before in
-    refused-promised _ (asking s) _ _ (c .answer-of .ensures)
+    refused-promised (asking s) (c .answer-of .ensures)
     (c .before .before .time-refusal .ensures ∙ sym (refusal-advance (view (s .args .run)) _)) (c .before .if1 .taken)
     record { tidy = s .pre .tidy; shown = refl }
 
@@ -40,7 +40,7 @@ moved-to-requires c κs =
 returns-2 : tie.Need-returns-2
 returns-2 c =
     let s = c .before .before .before in
-    accepted-promised _ (asking s) _ (refusal-advance (view (s .args .run)) _ ∙ fits (c .before))
+    accepted-promised (asking s) (refusal-advance (view (s .args .run)) _ ∙ fits (c .before))
     (shows-then (c .moved-to .ensures) (sym (effect-advance _ _)))
 
 pub advance-spec : {M : Type 1} → statement M

@@ -35,7 +35,7 @@ returns : tie.Need-returns
 returns c =
     let summed = c .before .before in
     let run = start summed .args .run in
-    accepted-promised run drain _ (refusal-drain (view run))
+    accepted-promised drain (refusal-drain (view run))
     (shows-then (c .moved-to .ensures)
     (ap (λ (n : ℕ). moved (view run) (run .clock + n)) (summed .total-of .ensures)
     ∙ moved-drained (view run)

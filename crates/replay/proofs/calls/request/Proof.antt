@@ -44,7 +44,7 @@ returns : tie.Need-returns
 returns c =
     let s = c .before .before .before in
     let e = c .before .before .early-refusal .ensures in
-    refused-promised _ (asking s) _ _ (c .answer-of .ensures)
+    refused-promised (asking s) (c .answer-of .ensures)
     (e ∙ early-number (view (s .args .run)) _ _ _ (λ z. c .before .if1 .taken (e ∙ z)))
     (c .before .if1 .taken)
     record { tidy = s .pre .tidy; shown = refl }
@@ -61,7 +61,7 @@ returns-2 : tie.Need-returns-2
 returns-2 c =
     let m = c .before .before in
     let s = start (m .before) in
-    refused-promised _ (asking s) _ 14 refl
+    refused-promised (asking s) refl
     (open-number (view (s .args .run)) _ _ _ (early (m .before)) _ (m .moved-to .ensures) (c .if2 .taken))
     (λ z. omega arith)
     record { tidy = s .pre .tidy; shown = refl }
@@ -84,7 +84,7 @@ returns-3 c =
     let v = view (s .args .run) in
     let e = early (m .before) in
     let r = m .moved-to .ensures in
-    accepted-promised _ (asking s) _ (taken-number v _ _ _ e _ r (omega (arith, c .before .if2 .left)))
+    accepted-promised (asking s) (taken-number v _ _ _ e _ r (omega (arith, c .before .if2 .left)))
     (taken-shows v _ _ _ e _ r _ (c .opened-by .ensures))
 
 pub request-spec : {M : Type 1} → statement M
