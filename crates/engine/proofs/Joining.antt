@@ -18,7 +18,7 @@ use Rattle.line.specs.Places.{queueAt, Tasks, Heads}
 use Rattle.legs.specs.Parts.{withQueue, Kept}
 use Rattle.legs.specs.declared.Cursor.{Cursor}
 use Rattle.engine.specs.Joining.{straightTo, Opens}
-use Rattle.line.proofs.Rings.{clear-set}
+use Rattle.lists.proofs.Places.{clear-set}
 use Rattle.line.proofs.Heads.{chosen-robin, heads-inside, heads-serves, serves-heads, heads-set}
 use Rattle.line.proofs.Queues.{drop-straight, length-straight, straight-priority}
 use Rattle.line.proofs.Queues.{below-queueAt, queueAt-joined}

@@ -11,7 +11,7 @@ use Rattle.rule.specs.State.{State}
 use Rattle.rule.specs.Calls.{moved, opened, requestRefusal}
 use Rattle.rule.specs.declared.Setup.{Setup}
 use Rattle.laws.specs.Sound.{Sound}
-use Rattle.laws.proofs.Refusals.{request-accepted}
+use Rattle.laws.proofs.Accepted.{request-accepted}
 use Rattle.laws.proofs.Made.{request-sound, queue-room}
 use Rattle.requests.proofs.Early.{early, early-between, refusal-now, refusal-open, refusal-none}
 use Rattle.line.specs.Places.{queueAt}

@@ -22,7 +22,7 @@ use Rattle.rule.specs.declared.Setup.{Setup}
 use Rattle.laws.specs.Sound.{Sliced, Sound}
 use Rattle.laws.specs.Accepted.{Taken, Requested}
 use Rattle.laws.proofs.Ticks.{moved-setup}
-use Rattle.laws.proofs.Refusals.{setup-taken, request-accepted, isPriority-true}
+use Rattle.laws.proofs.Accepted.{setup-taken, request-accepted, isPriority-true}
 use Rattle.laws.proofs.Sound.{moved-sound, drained-sound}
 
 -- ---- what is open

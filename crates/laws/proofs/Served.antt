@@ -17,7 +17,7 @@ use Rattle.rule.specs.State.{State}
 use Rattle.rule.specs.Tick.{chosen, overdue, headBack, turn, usedMore, last, give, rest, serve, tickOn, tick}
 use Rattle.rule.specs.declared.Setup.{Setup}
 use Rattle.laws.specs.Sound.{Sliced, Room}
-use Rattle.laws.proofs.Chosen.{chosen-member}
+use Rattle.laws.proofs.Foremost.{chosen-member}
 
 -- The state r comes of the state s by a tick that task i got.
 pub record Served (s r : State) (i : ℕ) : Type 0 where

@@ -19,10 +19,10 @@ use Rattle.rule.specs.declared.Run.{Run}
 use Rattle.laws.specs.Backlog.{accepted, Accounted}
 use Rattle.laws.specs.Reasons.{Judged, setupReasons}
 use Rattle.laws.specs.Played.{Played, none, then, Judges}
-use Rattle.laws.proofs.Refusals.{refused-stays, accepted-acts}
-use Rattle.laws.proofs.Judged.{setup-judged, refusal-judged}
+use Rattle.laws.proofs.Accepted.{refused-stays, accepted-acts}
+use Rattle.laws.proofs.Reasons.{setup-judged, refusal-judged}
 use Rattle.laws.proofs.Made.{made-fresh, made-call}
-use Rattle.laws.proofs.Demand3.{demand3}
+use Rattle.laws.proofs.Backlog.{demand3}
 
 -- ---- the shape of a promise
 

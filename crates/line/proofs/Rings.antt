@@ -19,7 +19,7 @@ use Rattle.lists.proofs.Counting.{times-append}
 use Rattle.lists.proofs.Places.{drop-take, paste-next, length-zero, below-append, below-take, below-drop}
 use Rattle.rule.specs.Tick.{headBack}
 use Rattle.line.specs.Places.{ring, takenOut}
-pub use Rattle.lists.proofs.Places.{clear-set, clear-behind}
+use Rattle.lists.proofs.Places.{clear-behind}
 
 -- ---- the ring
 

@@ -5,7 +5,7 @@ use Rattle.rule.specs.State.{State}
 use Rattle.rule.specs.Calls.{Call, refusal, effect}
 use Rattle.rule.specs.View.{view, Shows, Promised}
 use Rattle.rule.specs.declared.Run.{Run}
-use Rattle.laws.proofs.Refusals.{refused-stays, accepted-acts}
+use Rattle.laws.proofs.Accepted.{refused-stays, accepted-acts}
 
 pub shows-then : {r : Run} {s t : State} → Shows r s → s ≡ t → Shows r t
 shows-then h e = record { tidy = h .tidy; shown = h .shown ∙ e }

@@ -14,7 +14,7 @@ use Rattle.rule.specs.Calls.{moved, opened, request, requestRefusal, refusal, e
 use Rattle.rule.specs.View.{view, Tidy, Shows}
 use Rattle.rule.specs.declared.Run.{Run}
 use Rattle.laws.specs.Sound.{Sound}
-use Rattle.laws.proofs.Refusals.{refusal-request, effect-request}
+use Rattle.laws.proofs.Accepted.{refusal-request, effect-request}
 use Rattle.laws.proofs.Made.{queue-room}
 use Rattle.requests.specs.Early.{earlyRefusal}
 use Rattle.requests.proofs.Early.{refusal-now, refusal-open, refusal-none}

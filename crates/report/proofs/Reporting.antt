@@ -13,7 +13,7 @@ use Rattle.rule.specs.Table.{rows, table, written}
 use Rattle.rule.specs.declared.Setup.{Setup}
 use Rattle.laws.specs.Rows.{Tabled}
 use Rattle.rule.proofs.Table.{length-rows}
-use Rattle.laws.proofs.Tables.{calls-outcome, completions-length, table-accepted}
+use Rattle.laws.proofs.Rows.{calls-outcome, length-completions, table-accepted}
 use Rattle.table.specs.Answers.{Answers, answerOf}
 use Rattle.table.specs.declared.TableAnswer.{TableAnswer}
 use Rattle.table.specs.declared.TableAnswer.the-variants.{Finished, Refused}
@@ -39,7 +39,7 @@ module _ (p : Setup) (ts ks ms : List ℕ) (tabled : Tabled p (length ts) (lengt
       (λ w.
       let same : completions (fresh p) (rows ts ks ms) ≡ ds = first (w .1) in
       ap length (sym same)
-      ∙ completions-length (fresh p) ts ks ms
+      ∙ length-completions (fresh p) ts ks ms
       ∙ length-rows ts ks ms (tabled .fitted .tasks-equal) (tabled .fitted .amounts-equal))
       (λ w. absurd (other (w .3)))
       (calls-outcome (fresh p) (rows ts ks ms))

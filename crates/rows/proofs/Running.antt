@@ -16,9 +16,9 @@ use Rattle.laws.specs.Sound.{Sound}
 use Rattle.laws.specs.Drains.{lastClock}
 use Rattle.laws.specs.Rows.{Fitted}
 use Rattle.laws.specs.Accepted.{Requested}
-use Rattle.laws.proofs.Refusals.{request-accepted, call-request, request-clock, refusal-request}
+use Rattle.laws.proofs.Accepted.{request-accepted, call-request, request-clock, refusal-request}
 use Rattle.laws.proofs.Made.{fresh-sound}
-use Rattle.laws.proofs.Drain.{owed-limit}
+use Rattle.laws.proofs.Drains.{owed-limit}
 use Rattle.line.proofs.Queues.{queueAt-zero}
 use Rattle.legs.specs.Parts as legs
 use Rattle.legs.specs.Parts.{withQueue, parts}

@@ -17,8 +17,8 @@ use Rattle.rule.specs.State.{State}
 use Rattle.rule.specs.Calls.{drained, Call, request, refusal, call, calls}
 use Rattle.rule.specs.Table.{Outcome, refused, finished, completion, completions, unlessRefused, outcomeFrom, rows}
 use Rattle.rule.proofs.Table.{length-rows}
-use Rattle.laws.proofs.Refusals.{request-done}
-use Rattle.laws.proofs.Tables.{completions-length}
+use Rattle.laws.proofs.Accepted.{request-done}
+use Rattle.laws.proofs.Rows.{length-completions}
 use Rattle.rows.specs.Promises.{settledBy, settledColumn}
 use Rattle.rows.proofs.Putting.{length-settled, at-settled}
 
@@ -214,7 +214,7 @@ module _ {ts ks ms : List ℕ} {s₀ s : State} {last noted : List ℕ} {i n : �
     column =
         let done = drained s .done in
         let many : length D ≡ length ks =
-        completions-length s₀ ts ks ms ∙ length-rows ts ks ms sameK sameM ∙ sym sameK in
+        length-completions s₀ ts ks ms ∙ length-rows ts ks ms sameK sameM ∙ sym sameK in
         ext-getD 0 D (settledColumn ks last done noted)
         (many ∙ sym (length-settled ks last done noted (length ks)))
         (λ j g.

@@ -15,7 +15,7 @@ use Rattle.rule.specs.State.{State}
 use Rattle.rule.specs.Tick.{chosen, turn, give, rest, ticks}
 use Rattle.rule.specs.declared.Setup.{Setup}
 use Rattle.laws.specs.Sound.{Sound}
-use Rattle.laws.proofs.Chosen.{chosen-member}
+use Rattle.laws.proofs.Foremost.{chosen-member}
 use Rattle.laws.proofs.Served.{times-turn, length-turn, overdue-room}
 use Rattle.laws.proofs.Ticks.{ticks-clock}
 use Rattle.laws.proofs.Jump.{ticks-idle}

@@ -6,7 +6,7 @@ use lib.ListN.{length, drop}
 use Rattle.rule.specs.State.{State}
 use Rattle.rule.specs.Calls.{Call}
 use Rattle.rule.specs.Table.{Outcome, outcomeFrom}
-use Rattle.laws.proofs.Tables.{written-refused, written-finished}
+use Rattle.laws.proofs.Rows.{written-refused, written-finished}
 use Rattle.rows.specs.Promises.{Runs, settledColumn}
 use Rattle.rows.specs.declared.Ran.{Ran}
 use Rattle.rows.proofs.Putting.{length-settled}

@@ -9,8 +9,8 @@ use Rattle.rule.specs.State.{fresh}
 use Rattle.rule.specs.Table.{Outcome, outcomeFrom, rows, columnRefusal, tableRefusal}
 use Rattle.rule.specs.declared.Setup.{Setup}
 use Rattle.laws.specs.Rows.{Tabled}
-use Rattle.laws.proofs.Tables.{tableRefusal-setup, tableRefusal-columns, table-tabled, table-refused, table-accepted}
-use Rattle.laws.proofs.Tables.{written-refused}
+use Rattle.laws.proofs.Rows.{tableRefusal-setup, tableRefusal-columns, table-tabled, table-refused, table-accepted}
+use Rattle.laws.proofs.Rows.{written-refused}
 use Rattle.table.specs.Answers.{Answers, AnswersTable}
 use Rattle.table.specs.declared.TableAnswer.{TableAnswer}
 use Rattle.table.specs.declared.TableAnswer.the-variants.{Refused}

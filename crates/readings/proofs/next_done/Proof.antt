@@ -9,8 +9,8 @@ use Rattle.rule.specs.State.{State}
 use Rattle.rule.specs.View.{view}
 use Rattle.laws.specs.Next.{DoneNext}
 use Rattle.laws.proofs.Made.{made-sound, none-owed}
-use Rattle.laws.proofs.Drain.{made-within}
-use Rattle.laws.proofs.Soonest.{next-nothing, done-next}
+use Rattle.laws.proofs.Drains.{made-within}
+use Rattle.laws.proofs.Next.{next-nothing, done-next}
 use Rattle.engine.proofs.Assembly.{apart-sound}
 use Rattle.readings.proofs.Reading.{apart-room}
 use Rattle.readings.proofs.next_done.Statement.{statement}

@@ -2,7 +2,7 @@
 use native.Mathlib.Omega.{arith}
 use borrow.Author.Needs.{needs}
 use Rattle.laws.proofs.Made.{made-sound}
-use Rattle.laws.proofs.Drain.{made-within}
+use Rattle.laws.proofs.Drains.{made-within}
 use Rattle.readings.proofs.total_owed.Statement.{statement}
 use Rattle.readings.proofs.total_owed.Tie as tie
 

@@ -6,7 +6,7 @@ use denote.Ref.{now}
 use Rattle.lists.proofs.Testing.{cond-true, cond-false}
 use Rattle.rule.specs.Setups.{asked, setupRefusal, plain}
 use Rattle.rule.specs.declared.Setup.{Setup}
-use Rattle.laws.proofs.Refusals.{setup-taken}
+use Rattle.laws.proofs.Accepted.{setup-taken}
 use Rattle.setups.proofs.judged_setup.Statement.{statement}
 use Rattle.setups.proofs.judged_setup.Tie as tie
 

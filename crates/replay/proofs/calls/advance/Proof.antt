@@ -4,7 +4,7 @@ use native.Mathlib.Omega.{arith}
 use mathlib.Core.Path.{_≡_, refl, sym, _∙_}
 use Rattle.rule.specs.Calls.{Call, advance, advanceRefusal}
 use Rattle.rule.specs.View.{view}
-use Rattle.laws.proofs.Refusals.{refusal-advance, effect-advance}
+use Rattle.laws.proofs.Accepted.{refusal-advance, effect-advance}
 use Rattle.laws.proofs.Made.{made-sound}
 use Rattle.requests.proofs.Early.{time-between, time-passed}
 use Rattle.replay.proofs.Calling.{shows-then, refused-promised, accepted-promised}

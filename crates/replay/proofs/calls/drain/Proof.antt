@@ -6,9 +6,9 @@ use mathlib.Core.Path.{sym, ap, _∙_}
 use Rattle.rule.specs.Calls.{moved, drain}
 use Rattle.rule.specs.View.{view}
 use Rattle.laws.proofs.Ticks.{moved-drained}
-use Rattle.laws.proofs.Refusals.{refusal-drain, effect-drain}
+use Rattle.laws.proofs.Accepted.{refusal-drain, effect-drain}
 use Rattle.laws.proofs.Made.{made-sound}
-use Rattle.laws.proofs.Drain.{made-within}
+use Rattle.laws.proofs.Drains.{made-within}
 use Rattle.replay.proofs.Calling.{shows-then, accepted-promised}
 use Rattle.replay.proofs.calls.drain.Statement.{statement}
 use Rattle.replay.proofs.calls.drain.Tie as tie

@@ -5,7 +5,7 @@ use Prim.Native.Nat.{ℕ, _≤_}
 use Rattle.rule.specs.State.{fresh}
 use Rattle.rule.specs.View.{Shows}
 use Rattle.rule.specs.declared.Setup.{Setup}
-use Rattle.laws.proofs.Refusals.{setup-small}
+use Rattle.laws.proofs.Accepted.{setup-small}
 use Rattle.replay.proofs.start.setup.Statement.{statement}
 use Rattle.replay.proofs.start.setup.Tie as tie
 

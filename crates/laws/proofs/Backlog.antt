@@ -24,7 +24,7 @@ use Rattle.laws.specs.Backlog.{Ask, timeOf, taskOf, amountOf, sumBy, sum
 use Rattle.laws.specs.Backlog.{accepted, Accounted}
 use Rattle.laws.proofs.Ticks.{moved-clock}
 use Rattle.laws.proofs.Served.{Served, ticked}
-use Rattle.laws.proofs.Refusals.{request-accepted}
+use Rattle.laws.proofs.Accepted.{request-accepted}
 use Rattle.laws.proofs.Sound.{tick-sound, owed-total, owed-at, given-at}
 use Rattle.laws.proofs.Made.{none-owed, call-sound, fresh-sound}
 

@@ -22,10 +22,10 @@ use Rattle.laws.specs.Sound.{Sound}
 use Rattle.laws.specs.Sequences.{AllAccepted}
 use Rattle.laws.specs.During.{ClosesAt}
 use Rattle.laws.specs.Rows.{Tabled, FirstRefused, Comes, before-rows, at-row, to-the-end}
-use Rattle.laws.proofs.Refusals.{request-accepted, accepted-acts}
+use Rattle.laws.proofs.Accepted.{request-accepted, accepted-acts}
 use Rattle.laws.proofs.Sound.{moved-sound}
 use Rattle.laws.proofs.Made.{call-sound}
-use Rattle.laws.proofs.Completion.{closes}
+use Rattle.laws.proofs.During.{closes}
 
 -- ---- refusals before the rows
 
@@ -166,18 +166,18 @@ module _ (p : Setup) (ts ks ms : List ℕ) (room : ℕ) where
 -- ---- the column
 
 -- one entry a row, so that the column keeps its length
-pub completions-length : (s : State) (ts ks ms : List ℕ)
+pub length-completions : (s : State) (ts ks ms : List ℕ)
     → length (completions s (rows ts ks ms)) ≡ length (rows ts ks ms)
 unfolding completions rows
-completions-length s [] ks ms = refl
-completions-length s (t ∷ ts) [] ms = refl
-completions-length s (t ∷ ts) (k ∷ ks) [] = refl
-completions-length s (t ∷ ts) (k ∷ ks) (m ∷ ms) = ap suc (completions-length (call s (request t k m)) ts ks ms)
+length-completions s [] ks ms = refl
+length-completions s (t ∷ ts) [] ms = refl
+length-completions s (t ∷ ts) (k ∷ ks) [] = refl
+length-completions s (t ∷ ts) (k ∷ ks) (m ∷ ms) = ap suc (length-completions (call s (request t k m)) ts ks ms)
 
-pub written-length : (ts : List ℕ) (end : ℕ) (column : List ℕ) → length ts ≤ length column
+pub length-written : (ts : List ℕ) (end : ℕ) (column : List ℕ) → length ts ≤ length column
     → length (written (finished ts end) column) ≡ length column
 unfolding written
-written-length ts end column h = simp (length-append, length-drop) (omega arith)
+length-written ts end column h = simp (length-append, length-drop) (omega arith)
 
 pub written-row : (ts : List ℕ) (end : ℕ) (column : List ℕ) (i : ℕ) → i < length ts
     → at (written (finished ts end) column) i ≡ at ts i

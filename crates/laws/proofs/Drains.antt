@@ -19,7 +19,7 @@ use Rattle.laws.specs.Sound.{Sound}
 use Rattle.laws.specs.Drains.{Drains, lastClock}
 use Rattle.laws.proofs.Ticks.{moved-clock, drained-clock}
 use Rattle.laws.proofs.Served.{ticked}
-use Rattle.laws.proofs.Refusals.{request-accepted, advance-accepted}
+use Rattle.laws.proofs.Accepted.{request-accepted, advance-accepted}
 use Rattle.laws.proofs.Sound.{owed-total, tick-sound}
 use Rattle.laws.proofs.Made.{none-owed, call-sound, fresh-sound, made-sound}
 

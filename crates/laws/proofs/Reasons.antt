@@ -23,7 +23,7 @@ use Rattle.rule.specs.declared.Setup.{Setup}
 use Rattle.laws.specs.Accepted.{clearFrom}
 use Rattle.laws.specs.Reasons.{Reason, reason, Judged, PolicyUnknown, SliceUnfit, BytesUnfit, setupReasons}
 use Rattle.laws.specs.Reasons.{tableReasons, advanceReasons, requestReasons, reasons}
-use Rattle.laws.proofs.Refusals.{isPriority-true, isPriority-false, clear-from}
+use Rattle.laws.proofs.Accepted.{isPriority-true, isPriority-false, clear-from}
 
 -- ---- lists of reasons
 

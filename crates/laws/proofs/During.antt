@@ -17,9 +17,9 @@ use Rattle.laws.specs.Sound.{Sound}
 use Rattle.laws.specs.Sequences.{AllAccepted, reach}
 use Rattle.laws.specs.During.{during, ClosesAt}
 use Rattle.laws.proofs.Ticks.{ticks-clock}
-use Rattle.laws.proofs.Refusals.{advance-accepted, request-accepted, accepted-acts}
+use Rattle.laws.proofs.Accepted.{advance-accepted, request-accepted, accepted-acts}
 use Rattle.laws.proofs.Made.{call-sound}
-use Rattle.laws.proofs.Drain.{ticks-owed}
+use Rattle.laws.proofs.Drains.{ticks-owed}
 use Rattle.laws.proofs.Closing.{ticks-closed, open-earlier, DoneIn, done-in}
 
 -- ---- a call that does not open task k is n ticks to it

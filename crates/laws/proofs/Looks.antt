@@ -15,9 +15,9 @@ use Rattle.laws.specs.Sound.{Sound}
 use Rattle.laws.specs.Sequences.{AllAccepted, reach}
 use Rattle.laws.specs.Looks.{Entry, said, added, bare, answers, heard, InTime, Addable}
 use Rattle.laws.proofs.Ticks.{ticks-clock, ticks-add, moved-clock, moved-setup, moved-moved}
-use Rattle.laws.proofs.Refusals.{advance-accepted, accepted-acts}
+use Rattle.laws.proofs.Accepted.{advance-accepted, accepted-acts}
 use Rattle.laws.proofs.Made.{call-sound, made-sound}
-use Rattle.laws.proofs.Drain.{ticks-owed}
+use Rattle.laws.proofs.Drains.{ticks-owed}
 
 -- ---- one call
 

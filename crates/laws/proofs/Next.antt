@@ -23,7 +23,7 @@ use Rattle.laws.proofs.Ticks.{tick-clock}
 use Rattle.laws.proofs.Served.{Served, ticked}
 use Rattle.laws.proofs.Sound.{served-owed, served-inside, owed-at, done-last, done-more, done-other, tick-sound}
 use Rattle.laws.proofs.Made.{made-sound}
-use Rattle.laws.proofs.Drain.{tick-owed, ticks-owed}
+use Rattle.laws.proofs.Drains.{tick-owed, ticks-owed}
 use Rattle.laws.proofs.Closing.{tick-opened, DoneIn, done-in}
 
 -- ---- the search in the column of completions
