@@ -97,7 +97,13 @@ rest-counted l s e h g =
       counts =
           record {
             owed = omega (arith, h .counts .owed, ap (backlog l) c, backlog-next l (s .clock) none);
-            idle = omega (arith, h .counts .idle, ap (emptyTicks l) c, empty-more l (s .clock) (omega (arith, h .counts .owed)));
+            idle =
+                omega (
+                  arith,
+                  h .counts .idle,
+                  ap (emptyTicks l) c,
+                  empty-more l (s .clock) (omega (arith, h .counts .owed)),
+                );
             each = h .counts .each;
           };
       none-later = λ t d. h .none-later t (omega arith);
@@ -113,7 +119,14 @@ served-counted l s r i v h g =
       counts =
           record {
             owed = omega (arith, h .counts .owed, ap (backlog l) c, backlog-next l (s .clock) none);
-            idle = omega (arith, h .counts .idle, v .idle, ap (emptyTicks l) c, empty-same l (s .clock) (omega (arith, h .counts .owed)));
+            idle =
+                omega (
+                  arith,
+                  h .counts .idle,
+                  v .idle,
+                  ap (emptyTicks l) c,
+                  empty-same l (s .clock) (omega (arith, h .counts .owed)),
+                );
             each = λ k. omega (arith, h .counts .each k, owed-at s r i (h .sound) v k, given-at s r i (h .sound) v k);
           };
       none-later = λ t d. h .none-later t (omega arith);
@@ -149,9 +162,19 @@ opened-counted l s t k a c i z h g =
             each = λ j.
                 equal-or k j
                 (λ e. rw (← e)
-                (omega (arith, sumBy-same taskOf amountOf l q k refl, h .counts .each k, at-set-same (s .owed) k a inside)))
+                (omega (
+                  arith,
+                  sumBy-same taskOf amountOf l q k refl,
+                  h .counts .each k,
+                  at-set-same (s .owed) k a inside,
+                )))
                 (λ n.
-                omega (arith, sumBy-other taskOf amountOf l q j n, h .counts .each j, at-set-other (s .owed) k a j (λ e. n (sym e))));
+                omega (
+                  arith,
+                  sumBy-other taskOf amountOf l q j n,
+                  h .counts .each j,
+                  at-set-other (s .owed) k a j (λ e. n (sym e)),
+                ));
           };
       none-later = λ u d. omega (arith, sumBy-other timeOf amountOf l q u (λ e. omega arith), h .none-later u d);
     }

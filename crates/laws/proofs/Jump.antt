@@ -74,7 +74,8 @@ give-queue : (s : State) (i m : ℕ) → m < at (s .owed) i → give s i m .queu
 unfolding give
 give-queue s i m h = simp (ne-eqb (at (s .owed) i) m (omega arith))
 
-give-room : (s : State) (i m n : ℕ) → m < at (s .owed) i → Room (s .setup) (s .used) (m + n) → Room (s .setup) (give s i m .used) n
+give-room : (s : State) (i m n : ℕ) → m < at (s .owed) i → Room (s .setup) (s .used) (m + n)
+    → Room (s .setup) (give s i m .used) n
 unfolding give
 give-room s i m n h w e =
     let u : give s i m .used ≡ s .used + m = simp (ne-eqb (at (s .owed) i) m (omega arith), usedMore-robin) in
@@ -119,7 +120,8 @@ module _ (s : State) (i : ℕ) (ho : i < length (s .owed)) (hg : i < length (s .
       ∙ ap (λ (k : ℕ). give g k 1) (ap (chosen (s .setup)) q ∙ serves)
       ∙ give-give s i m 1 ho hg h
 
-  ticks-give : (n m : ℕ) → 0 < m → m + n ≤ at (s .owed) i → Room (s .setup) (s .used) (m + n) → ticks n (give s i m) ≡ give s i (m + n)
+  ticks-give : (n m : ℕ) → 0 < m → m + n ≤ at (s .owed) i → Room (s .setup) (s .used) (m + n)
+      → ticks n (give s i m) ≡ give s i (m + n)
   unfolding ticks
   ticks-give zero m p h w = rw (add-zero m)
   ticks-give (suc n) m p h w =
@@ -145,7 +147,8 @@ jump s (suc n) some ho hg p h w =
 
 -- t is s after the turn, and gives its chosen task i some ticks in a row: that is s as many ticks later
 pub ticks-jump : (s t : State) → Sound s → 0 < length (s .queue) → t ≡ turn s → (i n : ℕ)
-    → i ≡ chosen (t .setup) (t .queue) → 0 < n → n ≤ at (t .owed) i → Room (t .setup) (t .used) n → ticks n s ≡ give t i n
+    → i ≡ chosen (t .setup) (t .queue) → 0 < n → n ≤ at (t .owed) i → Room (t .setup) (t .used) n
+    → ticks n s ≡ give t i n
 ticks-jump s t S some e = subst Jumps (sym e) from-turn
   where
     Jumps : State → Type 0

@@ -48,16 +48,14 @@ length-headBack (h ∷ t) = omega (arith, length-append t (h ∷ []))
 pub times-turn : (s : State) (k : ℕ) → times k (turn s .queue) ≡ times k (s .queue)
 unfolding turn
 times-turn s k =
-    cond-both (λ (q : List ℕ). times k q ≡ times k (s .queue)) (overdue (s .setup) (s .used)) (headBack (s .queue)) (s .queue)
-    (times-headBack k (s .queue))
-    refl
+    cond-both (λ (q : List ℕ). times k q ≡ times k (s .queue)) (overdue (s .setup) (s .used)) (headBack (s .queue))
+    (s .queue) (times-headBack k (s .queue)) refl
 
 pub length-turn : (s : State) → length (turn s .queue) ≡ length (s .queue)
 unfolding turn
 length-turn s =
-    cond-both (λ (q : List ℕ). length q ≡ length (s .queue)) (overdue (s .setup) (s .used)) (headBack (s .queue)) (s .queue)
-    (length-headBack (s .queue))
-    refl
+    cond-both (λ (q : List ℕ). length q ≡ length (s .queue)) (overdue (s .setup) (s .used)) (headBack (s .queue))
+    (s .queue) (length-headBack (s .queue)) refl
 
 -- after the turn some of the slice is left
 pub overdue-room : (p : Setup) (used : ℕ) → (isPriority p ≡ false → Sliced p used)

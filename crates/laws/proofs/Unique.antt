@@ -1,5 +1,6 @@
 -- No two different outcomes satisfy a promise, and what the promises of single calls give for sequences of calls on
--- runs. In order: the shape of a promise, runs and their views, setups and calls, made runs, sequences. Assumes nothing.
+-- runs. In order: the shape of a promise, runs and their views, setups and calls, made runs, sequences. Assumes
+-- nothing.
 use Prim.Native.Nat.{ℕ, _-_}
 use native.Mathlib.Omega.{arith}
 use mathlib.Core.Path.{_≡_, refl, sym, ap, ap₂, _∙_, subst}

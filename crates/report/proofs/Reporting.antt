@@ -8,7 +8,7 @@ use mathlib.Core.List.{List, _++_}
 use lib.ListN.{length, take, drop, length-append}
 use lib.Seq.{length-take-le, take-at}
 use Rattle.rule.specs.State.{fresh}
-use Rattle.rule.specs.Table.{Outcome, refused, finished, completions, outcomeFrom}
+use Rattle.rule.specs.Table.{Outcome, refused, finished, completions, outcomeFrom, mostRows}
 use Rattle.rule.specs.Table.{rows, table, written}
 use Rattle.rule.specs.declared.Setup.{Setup}
 use Rattle.laws.specs.Rows.{Tabled}
@@ -22,14 +22,14 @@ use Rattle.text.specs.Inner.{Columns}
 use Rattle.text.proofs.Columns.{columnsText-fit}
 use Rattle.report.specs.Report.{tablePrinted}
 
-module _ (p : Setup) (ts ks ms : List ℕ) (tabled : Tabled p (length ts) (length ks) (length ms) 1_024) where
+module _ (p : Setup) (ts ks ms : List ℕ) (tabled : Tabled p (length ts) (length ks) (length ms) mostRows) where
   abbrev o : Outcome
   o = outcomeFrom (fresh p) (rows ts ks ms)
 
   -- ---- columns that fit
 
-  table-is : table p ts ks ms 1_024 ≡ o
-  table-is = table-accepted p ts ks ms 1_024 tabled
+  table-is : table p ts ks ms mostRows ≡ o
+  table-is = table-accepted p ts ks ms mostRows tabled
 
   -- ---- the result column
 
@@ -50,7 +50,7 @@ module _ (p : Setup) (ts ks ms : List ℕ) (tabled : Tabled p (length ts) (lengt
       other : {n i : ℕ} → o ≡ refused n i → ⊥
       other g = let y : _≡_ {A = ℕ} 0 1 = cc in omega arith
 
-  module _ (before after : List ℕ) (room : length before ≡ 1_024) (r : TableAnswer)
+  module _ (before after : List ℕ) (room : length before ≡ mostRows) (r : TableAnswer)
       (A : Answers (table p ts ks ms (length before)) before r after) where
     is : table p ts ks ms (length before) ≡ o
     is = ap (table p ts ks ms) room ∙ table-is

@@ -7,7 +7,7 @@ use lib.ListN.{length}
 use lib.Dec.{eqb, leb}
 use borrow.Author.Tests.{eq-eqb, eqb-true, le-leb, leb-true}
 use Rattle.lists.proofs.Testing.{and-true}
-use Rattle.text.specs.Text.{tableText, columnsFit, columnsText}
+use Rattle.text.specs.Text.{tableText, columnsFit, columnsText, mostLines}
 use Rattle.text.specs.Inner.{Columns}
 
 module _ (t a m d : List ℕ) where
@@ -15,11 +15,11 @@ module _ (t a m d : List ℕ) where
   unfolding columnsFit
   columns-fit e =
       let one = eqb (length a) (length t) && eqb (length m) (length t) in
-      let p = and-true (one && eqb (length d) (length t)) (leb (length t) 1_024) e in
+      let p = and-true (one && eqb (length d) (length t)) (leb (length t) mostLines) e in
       let q = and-true one (eqb (length d) (length t)) (p .0) in
       let r = and-true (eqb (length a) (length t)) (eqb (length m) (length t)) (q .0) in
       record {
-        few = leb-true (length t) 1_024 (p .1);
+        few = leb-true (length t) mostLines (p .1);
         asked-too = eqb-true (length a) (length t) (r .0);
         amounts-too = eqb-true (length m) (length t) (r .1);
         done-too = eqb-true (length d) (length t) (q .1);
@@ -32,7 +32,7 @@ module _ (t a m d : List ℕ) where
         eq-eqb (length a) (length t) (c .asked-too),
         eq-eqb (length m) (length t) (c .amounts-too),
         eq-eqb (length d) (length t) (c .done-too),
-        le-leb (length t) 1_024 (c .few),
+        le-leb (length t) mostLines (c .few),
       )
 
   pub columnsText-other : (end : ℕ) → columnsFit (length t) (length a) (length m) (length d) ≡ false
