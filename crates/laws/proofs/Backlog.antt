@@ -3,7 +3,7 @@
 use Prim.Native.Nat.{ℕ, zero, suc, _+_, _-_, _≤_, _<_}
 use native.Mathlib.Numerals.{add-one}
 use native.Mathlib.Omega.{arith}
-use mathlib.Core.Path.{_≡_, refl, sym, ap, subst}
+use mathlib.Core.Path.{_≡_, refl, sym, ap, subst, _∙_}
 use mathlib.Core.Logic.{⊎-elim}
 use mathlib.Core.Bool.{cond}
 use mathlib.Core.List.{List, [], _∷_, _++_, append-assoc, append-nil}
@@ -70,14 +70,6 @@ backlog-next : (l : List Ask) (t : ℕ) → sumAt amountOf l (suc t) ≡ 0 → b
 unfolding backlog
 backlog-next l t e = omega arith
 
-empty-more : (l : List Ask) (t : ℕ) → backlog l t ≡ 0 → emptyTicks l (suc t) ≡ emptyTicks l t + 1
-unfolding emptyTicks
-empty-more l t e = ap (λ (n : ℕ). emptyTicks l t + n) (cond-true 1 0 (eq-eqb (backlog l t) 0 e))
-
-empty-same : (l : List Ask) (t : ℕ) → 0 < backlog l t → emptyTicks l (suc t) ≡ emptyTicks l t
-unfolding emptyTicks
-empty-same l t h = omega (arith, cond-false {A = ℕ} 1 0 (ne-eqb (backlog l t) 0 (λ e. omega arith)))
-
 -- ---- ticks
 
 -- what is carried from call to call
@@ -86,51 +78,43 @@ record Counted (l : List Ask) (s : State) : Type 0 where
   counts : Accounted l s
   none-later : (t : ℕ) → s .clock < t → sumAt amountOf l t ≡ 0
 
+-- one tick on, which took one of the ticks owed or was idle
+module _ (l : List Ask) (s r : State) (h : Counted l s) (g : Sound r) (c : r .clock ≡ suc (s .clock)) where
+  idle-next : emptyTicks l (suc (s .clock)) ≡ emptyTicks l (s .clock) + cond (eqb (backlog l (s .clock)) 0) 1 0
+  idle-next = unfold emptyTicks in refl
+
+  counted-next : total (r .owed) ≡ total (s .owed) - 1
+      → r .idle ≡ s .idle + cond (eqb (total (s .owed)) 0) 1 0
+      → ((k : ℕ) → at (r .given) k + at (r .owed) k ≡ at (s .given) k + at (s .owed) k) → Counted l r
+  counted-next o i each =
+      record {
+        sound = g;
+        counts =
+            record {
+              owed = omega (arith, h .counts .owed, ap (backlog l) c, backlog-next l (s .clock) none);
+              idle = i ∙ rw (h .counts .owed, h .counts .idle) (sym idle-next) ∙ ap (emptyTicks l) (sym c);
+              each = λ k. h .counts .each k ∙ sym (each k);
+            };
+        none-later = λ t d. h .none-later t (omega arith);
+      }
+    where
+      none : sumAt amountOf l (suc (s .clock)) ≡ 0
+      none = h .none-later (suc (s .clock)) (omega arith)
+
 rest-counted : (l : List Ask) (s : State) → s .queue ≡ [] → Counted l s → Sound (rest s 1) → Counted l (rest s 1)
 unfolding rest
 rest-counted l s e h g =
-    let c : s .clock + 1 ≡ suc (s .clock) = add-one (s .clock) in
     let z : total (s .owed) ≡ 0 = none-owed s (h .sound) e in
-    let none : sumAt amountOf l (suc (s .clock)) ≡ 0 = h .none-later (suc (s .clock)) (omega arith) in
-    record {
-      sound = g;
-      counts =
-          record {
-            owed = omega (arith, h .counts .owed, ap (backlog l) c, backlog-next l (s .clock) none);
-            idle =
-                omega (
-                  arith,
-                  h .counts .idle,
-                  ap (emptyTicks l) c,
-                  empty-more l (s .clock) (omega (arith, h .counts .owed)),
-                );
-            each = h .counts .each;
-          };
-      none-later = λ t d. h .none-later t (omega arith);
-    }
+    counted-next l s (rest s 1) h g (add-one (s .clock)) (omega arith)
+    (ap (λ (n : ℕ). s .idle + n) (sym (cond-true 1 0 (eq-eqb (total (s .owed)) 0 z))))
+    (λ k. refl)
 
 served-counted : (l : List Ask) (s r : State) (i : ℕ) → Served s r i → Counted l s → Sound r → Counted l r
 served-counted l s r i v h g =
-    let c : r .clock ≡ suc (s .clock) = omega (arith, v .clock) in
     let less : total (r .owed) + 1 ≡ total (s .owed) = owed-total s r i (h .sound) v in
-    let none : sumAt amountOf l (suc (s .clock)) ≡ 0 = h .none-later (suc (s .clock)) (omega arith) in
-    record {
-      sound = g;
-      counts =
-          record {
-            owed = omega (arith, h .counts .owed, ap (backlog l) c, backlog-next l (s .clock) none);
-            idle =
-                omega (
-                  arith,
-                  h .counts .idle,
-                  v .idle,
-                  ap (emptyTicks l) c,
-                  empty-same l (s .clock) (omega (arith, h .counts .owed)),
-                );
-            each = λ k. omega (arith, h .counts .each k, owed-at s r i (h .sound) v k, given-at s r i (h .sound) v k);
-          };
-      none-later = λ t d. h .none-later t (omega arith);
-    }
+    counted-next l s r h g (omega (arith, v .clock)) (omega arith)
+    (omega (arith, v .idle, cond-false {A = ℕ} 1 0 (ne-eqb (total (s .owed)) 0 (λ e. omega arith))))
+    (λ k. omega (arith, owed-at s r i (h .sound) v k, given-at s r i (h .sound) v k))
 
 tick-counted : (l : List Ask) (s : State) → Counted l s → Counted l (tick s)
 tick-counted l s h =
