@@ -1,5 +1,7 @@
 // What a line is made of, in a buffer that the caller lends: a byte, bytes, a number in decimal. Each function puts
 // its text at `at` and answers the place just past it.
+#![tactic(auto)]
+
 ghost use Rattle.std.specs.Prelude.{◌+◌, ◌≤◌, ◌<◌, [], ◌∷◌, ◌++◌, length};
 ghost use Rattle.cells.specs.Decimal.{digits, decimal};
 ghost use Rattle.cells.specs.Writes.{Wrote, WroteUpTo};

@@ -1,5 +1,7 @@
 // The C face, described in include/anduri.h: each function is a call of a proved one, with plain numbers for its
 // answer.
+#![tactic(auto)]
+
 ghost use Rattle.std.specs.Prelude.{◌≡◌, length};
 ghost use Rattle.lists.specs.Lists.{total};
 ghost use Rattle.rule.specs.Setups.{asked};

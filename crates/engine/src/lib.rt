@@ -1,5 +1,7 @@
 // The replay on a run taken apart: a cursor of small numbers by value, and the arrays lent. In order: moves of the
 // clock, a request, the next completion, a run taken apart and put together. Inside: a task that joins (opening).
+#![tactic(auto)]
+
 mod opening;
 
 ghost use Rattle.std.specs.Prelude.{◌≡◌, ◌+◌, ◌≤◌, ◌<◌, ◌^◌, length};
@@ -76,7 +78,7 @@ pub fn drain_on(
 }
 
 // A request's refusal, 0 where it is accepted, and the cursor afterwards.
-#[derive(Drop)]
+#[derive(Clone, Copy)]
 pub struct Asked {
     pub refusal: u32,
     pub cursor: Cursor,
@@ -119,7 +121,7 @@ pub fn ask(
 }
 
 // A task, and when it is done.
-#[derive(Drop)]
+#[derive(Clone, Copy)]
 pub struct NextDone {
     pub task: u32,
     pub time: u32,

@@ -1,11 +1,13 @@
 // The log on standard input, read in three ways: what it is judged to be and its first record; record after record,
 // by a reader that is lent to `next`, and on after the last; by record blocks, 0 to 3, each as that stretch of the log.
+#![tactic(auto)]
+
 ghost use Rattle.std.specs.Prelude.{◌≡◌};
 ghost use Rattle.places.specs.Places.{taken_at, Stands};
 
 use judging::Judged;
 use libc::{STDIN_FILENO, STDOUT_FILENO};
-use log::Found;
+use logs::Found;
 use places::Taken;
 use words::word_at;
 
@@ -101,10 +103,10 @@ fn records(log: &[u8]) {
 fn record_block(log: &[u8], block: usize) {
     number(b"records of block ", block as u64);
     write(b":");
-    let asked = log::block_refusal(log, block);
+    let asked = logs::block_refusal(log, block);
     match asked {
         Judged::Accepted => {
-            let bytes = log::block_records(log, block);
+            let bytes = logs::block_records(log, block);
             number(b" ", bytes.len() as u64);
             write(b" bytes, the first record");
             record_line(word_at(bytes, 0), word_at(bytes, 4), word_at(bytes, 8));

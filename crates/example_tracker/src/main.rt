@@ -1,5 +1,7 @@
 // Run A of document 01 followed call by call: each lends the run to the call in place, by a function that ends in
 // `_through`. A line after each call, and at the end the completions.
+#![tactic(auto)]
+
 ghost use Rattle.rule.specs.View.{MadeRun};
 
 use libc::STDOUT_FILENO;

@@ -4,7 +4,7 @@ use Rattle.rule.specs.Readings.{Reading, value, never, refused, Soonest, nothing
 use Rattle.rule.specs.Table.{Outcome, written}
 use Rattle.judging.specs.Log as log
 use Rattle.judging.specs.Log.{Verdict, accepted}
-use Rattle.log.specs.Records.{asked_times}
+use Rattle.logs.specs.Records.{asked_times}
 use Rattle.replay.specs.Answers.{call_number_lem}
 use Rattle.replay.specs.declared.calls.Moved.{Moved}
 use Rattle.table.specs.Answers.{answer_of}

@@ -1,4 +1,6 @@
 // The answers as the C face tells them: plain numbers, 0 for what does not apply. No function here is exported.
+#![tactic(auto)]
+
 ghost use Rattle.std.specs.Prelude.{◌≡◌};
 ghost use Rattle.judging.specs.Log.{judged};
 ghost use Rattle.readings.specs.Answers.{ticks_told, completion_told, next_told};
@@ -15,28 +17,28 @@ use table::TableAnswer;
 use tracker::start::restarted;
 
 #[repr(C)]
-#[derive(Drop)]
+#[derive(Clone, Copy)]
 pub struct MoveFace {
     pub refusal: u32,
     pub run: Run,
 }
 
 #[repr(C)]
-#[derive(Drop)]
+#[derive(Clone, Copy)]
 pub struct ReadFace {
     pub refusal: u32,
     pub value: u32,
 }
 
 #[repr(C)]
-#[derive(Drop)]
+#[derive(Clone, Copy)]
 pub struct NextFace {
     pub task: u32,
     pub at: u32,
 }
 
 #[repr(C)]
-#[derive(Drop)]
+#[derive(Clone, Copy)]
 pub struct OutcomeFace {
     pub refusal: u32,
     pub place: u32,
@@ -44,7 +46,7 @@ pub struct OutcomeFace {
 }
 
 #[repr(C)]
-#[derive(Drop)]
+#[derive(Clone, Copy)]
 pub struct VerdictFace {
     pub refusal: u32,
     pub place: u32,
@@ -164,7 +166,7 @@ pub fn verdict_on(log: &[u8]) -> VerdictFace
         Judged::Accepted => VerdictFace {
             refusal: 0,
             place: 0,
-            records: log::record_count(log) as u32,
+            records: logs::record_count(log) as u32,
         },
         Judged::Refused { number, block } => VerdictFace {
             refusal: number,

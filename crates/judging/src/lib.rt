@@ -1,4 +1,6 @@
 // The desk's log form: judging the bytes of a log. What a log is judged to be is said in specs/.
+#![tactic(auto)]
+
 ghost use Rattle.std.specs.Prelude.{◌≡◌};
 ghost use Rattle.judging.specs.Log.{told, judged};
 
@@ -7,7 +9,7 @@ use search::judge_blocks;
 mod search; // search.rt: the first refusal of the blocks
 
 // What a log is judged to be: accepted, or refused with a number and a block.
-#[derive(Drop)]
+#[derive(Clone, Copy)]
 pub enum Judged {
     Accepted,
     Refused { number: u32, block: usize },

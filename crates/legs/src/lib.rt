@@ -1,5 +1,7 @@
 // The cursor of a run taken apart, and its next leg: ticks one after another to one task. In order: the cursor, the
 // turn, the leg, the cursor after ticks.
+#![tactic(auto)]
+
 ghost use Rattle.std.specs.Prelude.{◌≡◌, ◌+◌, ◌≤◌, ◌<◌, ◌^◌, min};
 ghost use Rattle.rule.specs.Tick.{used_more_lem};
 ghost use Rattle.laws.specs.Sound.{Room};
@@ -11,7 +13,7 @@ use rule::Setup;
 // The small numbers of a run, which a move of the clock keeps in registers. The head is the place of the task that is
 // served. The idle ticks are as wide as the places so that no byte of the struct is padding: with padding a step under
 // round robin takes 58 instructions and not 49.
-#[derive(Drop)]
+#[derive(Clone, Copy)]
 pub struct Cursor {
     pub clock: u32,
     pub used: u32,
@@ -70,7 +72,7 @@ fn at_once(p: Setup, used: u32, owed: u32, limit: u32) -> u32
 }
 
 // A leg: the cursor after the turn, the task, the ticks that it is owed, and how many of them it gets.
-#[derive(Drop)]
+#[derive(Clone, Copy)]
 pub struct Leg {
     pub cursor: Cursor,
     pub task: u8,

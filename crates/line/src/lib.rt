@@ -1,4 +1,6 @@
 // The queue's array: the loops over its places, and who goes first.
+#![tactic(auto)]
+
 ghost use Rattle.std.specs.Prelude.{◌≡◌, true, cond, ◌++◌, ◌+◌, ◌≤◌, ◌<◌, ltb, length, drop};
 ghost use Rattle.std.proofs.Math.Seq.{paste};
 ghost use Rattle.rule.specs.View.{Clear};

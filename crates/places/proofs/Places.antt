@@ -12,11 +12,11 @@ use Rattle.lists.proofs.Testing.{tested, equal-or}
 use Rattle.words.specs.Words.{word}
 use Rattle.judging.specs.Blocks.{blocks, block, full_block}
 use Rattle.judging.specs.Log.{Verdict, accepted, refused, judged, Reads}
-use Rattle.log.specs.Records.{asked_times, row_at, found}
-use Rattle.log.specs.declared.Found.TheVariants.{Row, End}
-use Rattle.log.specs.declared.Record.{Record}
+use Rattle.logs.specs.Records.{asked_times, row_at, found}
+use Rattle.logs.specs.declared.Found.TheVariants.{Row, End}
+use Rattle.logs.specs.declared.Record.{Record}
 use Rattle.judging.proofs.Accepted.{accepted_counted, word_block}
-use Rattle.log.proofs.Rows.{column_blocks, column_most, column_some, row_here, found_row, found_none}
+use Rattle.logs.proofs.Rows.{column_blocks, column_most, column_some, row_here, found_row, found_none}
 use Rattle.places.specs.declared.Taken.{Taken}
 use Rattle.places.specs.Places.{row_number, has_row, taken_at, PlaceOf, Stands, first_block}
 

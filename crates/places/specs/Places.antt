@@ -5,8 +5,8 @@ use Rattle.rule.specs.Setups.{plain}
 use Rattle.rule.specs.declared.Setup.{Setup}
 use Rattle.judging.specs.Blocks.{full_block}
 use Rattle.judging.specs.Log.{Verdict, accepted, refused, told, judged, Reads}
-use Rattle.log.specs.Records.{setup_of_lem, asked_times, row_at}
-use Rattle.log.specs.declared.Found.TheVariants.{Row, End}
+use Rattle.logs.specs.Records.{setup_of_lem, asked_times, row_at}
+use Rattle.logs.specs.declared.Found.TheVariants.{Row, End}
 use Rattle.places.specs.declared.Begun.{Begun}
 use Rattle.places.specs.declared.Taken.{Taken}
 

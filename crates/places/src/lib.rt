@@ -1,15 +1,17 @@
 // The places of a log, each a block's number and a record's: what stands there and which place is after it, the
 // setup, and where reading begins. All of it takes the caller's bytes and two numbers, which `reader::Reader` holds.
+#![tactic(auto)]
+
 ghost use Rattle.std.specs.Prelude.{◌≡◌};
 ghost use Rattle.places.specs.Places.{taken_at, setup_at_lem, Stands, Begins};
 
 use judging::Judged;
-use log::{Found, Record};
+use logs::{Found, Record};
 use rule::Setup;
 use words::word_at;
 
 // What stands at a place of a log, and the place after it.
-#[derive(Drop)]
+#[derive(Clone, Copy)]
 pub struct Taken {
     pub found: Found,
     pub block: usize,
@@ -78,11 +80,11 @@ pub fn setup_at(log: &[u8], block: usize, _record: usize) -> Setup
             priority: [0; 32],
         };
     }
-    log::setup_of(log)
+    logs::setup_of(log)
 }
 
 // What a log is judged to be, and the block at which its reading begins.
-#[derive(Drop)]
+#[derive(Clone, Copy)]
 pub struct Begun {
     pub verdict: Judged,
     pub block: usize,

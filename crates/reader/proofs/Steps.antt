@@ -11,10 +11,10 @@ use denote.Ref.{Bor}
 use Rattle.judging.specs.Log.{Verdict, Reads}
 use Rattle.lists.proofs.Testing.{tested}
 use Rattle.rule.specs.Calls.{drain}
-use Rattle.log.specs.Records.{asked_times, row_list, found}
-use Rattle.log.proofs.Rows.{row_list_length, row_list_at, found_row, found_none}
-use Rattle.log.specs.declared.Found.{Found}
-use Rattle.log.specs.declared.Found.TheVariants.{End}
+use Rattle.logs.specs.Records.{asked_times, row_list, found}
+use Rattle.logs.proofs.Rows.{row_list_length, row_list_at, found_row, found_none}
+use Rattle.logs.specs.declared.Found.{Found}
+use Rattle.logs.specs.declared.Found.TheVariants.{End}
 use Rattle.places.specs.Places.{row_number, PlaceOf, first_block}
 use Rattle.places.proofs.Places.{first_reached, first_stands, taking}
 use Rattle.reader.specs.declared.Reader.{Reader}

@@ -6,7 +6,7 @@ use mathlib.Core.List.{List}
 use denote.Ref.{Bor}
 use Rattle.rule.specs.View.{Determined}
 use Rattle.judging.specs.Log.{judged}
-use Rattle.log.specs.declared.Found.{Found}
+use Rattle.logs.specs.declared.Found.{Found}
 use Rattle.judging.proofs.Unique.{told_determined}
 use Rattle.reader.specs.Reading.{OpenedOn, NextIs, FirstOf}
 use Rattle.reader.specs.declared.Reader.{Reader}

@@ -38,13 +38,13 @@ use denote.Triple.Walked.{walked, walk_Meets}
 use Rattle.places.specs.Places.{taken_at, Stands}
 use Rattle.reader.specs.Reading.{Standing}
 use Rattle.reader.specs.declared.Reader.{Reader}
-use Rattle.log.specs.declared.Found.{Found}
+use Rattle.logs.specs.declared.Found.{Found}
 use Rattle.places.specs.declared.Taken.{Taken}
 use Rattle.reader.specs.contracts.Reader as T
 use Rattle.reader.proofs.Reader.TheLaws as T'
 use Rattle.walk_laws.proofs.Data.{Data, struct, enum}
-use Rattle.log.specs.contracts.Found as S
-use Rattle.log.proofs.Found.TheLaws as S'
+use Rattle.logs.specs.contracts.Found as S
+use Rattle.logs.proofs.Found.TheLaws as S'
 use Rattle.places.specs.contracts.Taken as D
 use Rattle.places.proofs.Taken.TheLaws as D'
 

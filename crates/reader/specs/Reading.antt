@@ -4,8 +4,8 @@ use Rattle.std.specs.Borrow.{Bor}
 use Rattle.rule.specs.Calls.{Call, request, advance, drain}
 use Rattle.rule.specs.declared.Setup.{Setup}
 use Rattle.judging.specs.Log.{told, judged}
-use Rattle.log.specs.declared.Found.{Found}
-use Rattle.log.specs.declared.Found.TheVariants.{Row}
+use Rattle.logs.specs.declared.Found.{Found}
+use Rattle.logs.specs.declared.Found.TheVariants.{Row}
 use Rattle.places.specs.Places.{taken_at, setup_at_lem, Stands, first_block}
 use Rattle.places.specs.declared.Taken.{Taken}
 use Rattle.reader.specs.declared.First.{First}

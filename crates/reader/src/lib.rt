@@ -1,16 +1,18 @@
 // The reader of a log: it stays on the caller's bytes and knows its next record. The work is done by `places`, on the
 // bytes and two numbers; here stand thin calls over the struct.
+#![tactic(auto)]
+
 ghost use Rattle.std.specs.Prelude.{◌≡◌};
 ghost use Rattle.places.specs.Places.{taken_at, Stands};
 ghost use Rattle.reader.specs.Reading.{OpenedOn, Standing, taken_by, setup_by, NextIs, FirstOf};
 
 use judging::Judged;
-use log::Found;
+use logs::Found;
 use places::{Taken, found_at, setup_at, start_of, take_at};
 use rule::Setup;
 
 // A reader on the caller's log, before record `record` of block `block`.
-#[derive(Drop)]
+#[derive(Clone, Copy)]
 pub struct Reader<'a> {
     pub log: &'a [u8],
     pub block: usize,
@@ -18,7 +20,7 @@ pub struct Reader<'a> {
 }
 
 // What a log is judged to be, and a reader on it.
-#[derive(Drop)]
+#[derive(Clone, Copy)]
 pub struct Opened<'a> {
     pub verdict: Judged,
     pub reader: Reader<'a>,
@@ -67,7 +69,7 @@ pub fn next<'s, 'a>(reader: &'s mut Reader<'a>) -> Found
 }
 
 // What a log is judged to be, and its first record.
-#[derive(Drop)]
+#[derive(Clone, Copy)]
 pub struct First {
     pub verdict: Judged,
     pub found: Found,

@@ -1,4 +1,6 @@
 // The readings of a run. Each leaves the run as it is.
+#![tactic(auto)]
+
 ghost use Rattle.std.specs.Prelude.{◌≡◌, ◌≤◌, cond, leb, eqb};
 ghost use Rattle.lists.specs.Lists.{at, total};
 ghost use Rattle.rule.specs.View.{view, MadeRun};
@@ -8,14 +10,14 @@ ghost use Rattle.readings.specs.Answers.{ticks_told, completion_told, next_told}
 use rule::Run;
 
 // Ticks of a task, or refusal 12.
-#[derive(Drop)]
+#[derive(Clone, Copy)]
 pub enum TaskTicks {
     Ticks(u32),
     NoSuchTask,
 }
 
 // A task's latest completion, or refusal 12.
-#[derive(Drop)]
+#[derive(Clone, Copy)]
 pub enum Completion {
     At(u32),
     Never,
@@ -23,7 +25,7 @@ pub enum Completion {
 }
 
 // The task that would be done next and when, if nothing more were asked.
-#[derive(Drop)]
+#[derive(Clone, Copy)]
 pub enum Next {
     Done(u32, u32),
     Nothing,

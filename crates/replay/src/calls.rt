@@ -9,7 +9,7 @@ ghost use Rattle.replay.specs.Answers.{call_number_lem};
 use rule::Run;
 
 // A call's answer: accepted, or why it is refused.
-#[derive(Drop)]
+#[derive(Clone, Copy)]
 pub enum CallAnswer {
     Accepted,
     TimePastLimit,
@@ -20,7 +20,7 @@ pub enum CallAnswer {
 }
 
 // A call's answer, and the run after it.
-#[derive(Drop)]
+#[derive(Clone, Copy)]
 pub struct Moved {
     pub answer: CallAnswer,
     pub run: Run,

@@ -8,7 +8,7 @@ ghost use Rattle.replay.specs.Answers.{setup_number_lem};
 use rule::Run;
 
 // A setup's answer: accepted, or why it is refused.
-#[derive(Drop)]
+#[derive(Clone, Copy)]
 pub enum SetupAnswer {
     Accepted,
     WrongPolicy,
@@ -18,7 +18,7 @@ pub enum SetupAnswer {
 }
 
 // A setup's answer, and the run that it gives.
-#[derive(Drop)]
+#[derive(Clone, Copy)]
 pub struct Start {
     pub answer: SetupAnswer,
     pub run: Run,

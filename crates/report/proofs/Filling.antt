@@ -10,9 +10,9 @@ use borrow.Author.Tests.{lt-ltb}
 use Rattle.lists.specs.Lists.{at}
 use Rattle.judging.specs.Log.{Reads}
 use Rattle.rule.specs.Table.{most_rows}
-use Rattle.log.specs.Records.{asked_times, asked_tasks, asked_amounts, row_at, found}
-use Rattle.log.specs.declared.Record.{Record}
-use Rattle.log.proofs.Rows.{column_most, column_same}
+use Rattle.logs.specs.Records.{asked_times, asked_tasks, asked_amounts, row_at, found}
+use Rattle.logs.specs.declared.Record.{Record}
+use Rattle.logs.proofs.Rows.{column_most, column_same}
 use Rattle.places.specs.Places.{row_number, taken_at, PlaceOf}
 use Rattle.places.specs.declared.Taken.{Taken}
 use Rattle.places.proofs.Places.{first_reached, Taking, taking}

@@ -9,9 +9,9 @@ use Rattle.rule.specs.Table.{most_rows}
 use Rattle.rule.specs.declared.Setup.{Setup}
 use Rattle.laws.specs.Rows.{Tabled}
 use Rattle.judging.specs.Log.{refused, judged, Reads}
-use Rattle.log.specs.Records.{setup_of_lem, asked_times, asked_tasks, asked_amounts}
-use Rattle.log.proofs.Setups.{accepted_setup}
-use Rattle.log.proofs.Rows.{column_most, column_same}
+use Rattle.logs.specs.Records.{setup_of_lem, asked_times, asked_tasks, asked_amounts}
+use Rattle.logs.proofs.Setups.{accepted_setup}
+use Rattle.logs.proofs.Rows.{column_most, column_same}
 use Rattle.text.specs.Text.{refused_line}
 use Rattle.report.specs.Filled.{Filled}
 use Rattle.report.specs.Report.{log_outcome, rows_printed, printed, report_text}

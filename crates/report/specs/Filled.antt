@@ -1,10 +1,10 @@
 -- What the functions inside the report promise. Assumes nothing.
 use Rattle.std.specs.Prelude.{ℕ, ◌≤◌, ◌≡◌, List, length, take}
 use Rattle.rule.specs.Table.{most_rows}
-use Rattle.log.specs.Records.{asked_times, asked_tasks, asked_amounts}
-use Rattle.log.specs.declared.Found.{Found}
-use Rattle.log.specs.declared.Found.TheVariants.{Row, End}
-use Rattle.log.specs.declared.Record.{Record}
+use Rattle.logs.specs.Records.{asked_times, asked_tasks, asked_amounts}
+use Rattle.logs.specs.declared.Found.{Found}
+use Rattle.logs.specs.declared.Found.TheVariants.{Row, End}
+use Rattle.logs.specs.declared.Record.{Record}
 
 -- the record that was found; zeros where there was none
 abbrev pub record_in_lem : Found → Record

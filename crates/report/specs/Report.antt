@@ -5,7 +5,7 @@ use Rattle.rule.specs.Table as rule
 use Rattle.rule.specs.Table.{Outcome, finished, outcome_from, rows}
 use Rattle.rule.specs.declared.Setup.{Setup}
 use Rattle.judging.specs.Log.{Verdict, accepted, refused, judged}
-use Rattle.log.specs.Records.{setup_of_lem, asked_times, asked_tasks, asked_amounts, row_list}
+use Rattle.logs.specs.Records.{setup_of_lem, asked_times, asked_tasks, asked_amounts, row_list}
 use Rattle.text.specs.Text.{table_text, refused_line}
 
 -- the table of a log that reads: "The run is fresh from the setup, rows are requested in order, then it drains."

@@ -1,15 +1,17 @@
 // The work of the printing program: from the bytes that were read to the bytes that are written.
+#![tactic(auto)]
+
 ghost use Rattle.std.specs.Prelude.{◌≡◌, length};
 ghost use Rattle.rule.specs.Table.{most_rows};
 ghost use Rattle.laws.specs.Rows.{Tabled};
 ghost use Rattle.judging.specs.Log.{Reads};
-ghost use Rattle.log.specs.Records.{asked_times};
+ghost use Rattle.logs.specs.Records.{asked_times};
 ghost use Rattle.cells.specs.Writes.{Puts};
 ghost use Rattle.report.specs.Filled.{record_in_lem, Roomy, Filled};
 ghost use Rattle.report.specs.Report.{rows_printed, report_text};
 
 use judging::Judged;
-use log::{Found, Record};
+use logs::{Found, Record};
 use rule::Setup;
 use table::TableAnswer;
 
@@ -39,7 +41,7 @@ fn fill(
     ensures value { result ≡ length (asked_times log.now) }
     ensures filled { Filled log.now result times.new tasks.new amounts.new }
 {
-    let n = log::record_count(log);
+    let n = logs::record_count(log);
     let mut block: usize = 1;
     let mut place: usize = 0;
     let mut i: usize = 0;
@@ -99,7 +101,7 @@ fn put_log(log: &[u8], out: &mut [u8; 65536]) -> usize
     let mut tasks = [0u32; 1024];
     let mut amounts = [0u32; 1024];
     let n = fill(log, &mut times, &mut tasks, &mut amounts);
-    let setup = log::setup_of(log);
+    let setup = logs::setup_of(log);
     put_run(setup, &times[..n], &tasks[..n], &amounts[..n], out)
 }
 

@@ -1,5 +1,7 @@
 // Judging a call before the clock moves, refusals 10 to 13, and a table's columns, 20 to 22: one place for runs and
 // tables.
+#![tactic(auto)]
+
 ghost use Rattle.std.specs.Prelude.{◌≡◌};
 ghost use Rattle.rule.specs.Calls.{advance_refusal};
 ghost use Rattle.rule.specs.Table.{column_refusal_lem};

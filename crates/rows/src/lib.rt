@@ -1,4 +1,6 @@
 // The rows of a table: run one after the other on arrays of their own, and the completions written.
+#![tactic(auto)]
+
 ghost use Rattle.std.specs.Prelude.{◌≡◌, ◌≤◌, ◌<◌, cond, ◌++◌, length, set, drop, eqb};
 ghost use Rattle.lists.specs.Lists.{at};
 ghost use Rattle.lists.specs.Lists.{Below};
@@ -11,7 +13,7 @@ use rule::Setup;
 
 // The rows run: the refusal or 0; where they ended, by the row that was refused or by the clock after the drain; each
 // task's last row or 0; and each task's latest completion. Rows count from 1.
-#[derive(Drop)]
+#[derive(Clone, Copy)]
 pub struct Ran {
     pub refusal: u32,
     pub end: u32,

@@ -1,4 +1,6 @@
 // Judging a setup, refusals 1 to 4, and putting it together: one place for runs, tables and logs.
+#![tactic(auto)]
+
 ghost use Rattle.std.specs.Prelude.{◌≡◌, ◌||◌, ◌≤◌, length, drop, eqb};
 ghost use Rattle.lists.specs.Lists.{within, zeros};
 ghost use Rattle.rule.specs.Setups.{asked, slice_fits_lem, bytes_fit_lem, setup_refusal_lem};
@@ -107,7 +109,7 @@ fn setup_with(policy: u32, count: u32, slice: u32, priorities: &[u8]) -> Setup
 }
 
 // A setup's refusal, 0 where it is accepted, and the setup; one plain setup where it is refused.
-#[derive(Drop)]
+#[derive(Clone, Copy)]
 pub struct JudgedSetup {
     pub refusal: u32,
     pub setup: Setup,

@@ -1,5 +1,7 @@
 // A step of the clock on a run taken apart: idle ticks, or a leg. In order: what a leg gives, the cursor after the last
 // ticks of a task, the step.
+#![tactic(auto)]
+
 ghost use Rattle.std.specs.Prelude.{◌≡◌, ◌+◌, ◌≤◌, ◌<◌, ◌^◌};
 ghost use Rattle.lists.specs.Lists.{at};
 ghost use Rattle.laws.specs.Sound.{Sound};

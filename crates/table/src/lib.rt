@@ -1,4 +1,6 @@
 // The table run over columns: rows requested in order on a fresh run, and then a drain.
+#![tactic(auto)]
+
 ghost use Rattle.std.specs.Prelude.{◌<◌, length};
 ghost use Rattle.rule.specs.Setups.{asked};
 ghost use Rattle.laws.specs.Rows.{Tabled};
@@ -7,7 +9,7 @@ ghost use Rattle.table.specs.Answers.{AnswersTable};
 use rule::Setup;
 
 // The end; or a refusal with its number, and the row from 1 where a row is at fault, else 0.
-#[derive(Drop)]
+#[derive(Clone, Copy)]
 pub enum TableAnswer {
     Finished(u32),
     Refused(u32, u32),

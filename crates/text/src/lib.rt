@@ -1,5 +1,7 @@
 // Lines in a buffer that the caller lends. A function with a place `at` puts its text there and answers the place just
 // past it; the two public ones put theirs at the start.
+#![tactic(auto)]
+
 ghost use Rattle.std.specs.Prelude.{◌≡◌, ◌+◌, ◌*◌, ◌≤◌, length};
 ghost use Rattle.cells.specs.Writes.{WroteUpTo, Puts};
 ghost use Rattle.text.specs.Text.{row_line, row_lines, columns_fit_lem, columns_text, refused_line};

@@ -14,7 +14,7 @@ use Rattle.rule.specs.Table.{Outcome, completion, completions, unless_refused, o
 use Rattle.judging.specs.Blocks.{length_fits, check_fits, place_fits, setup_in_lem, records_to, count_fits, unused_zero}
 use Rattle.judging.specs.Blocks.{layout_fits}
 use Rattle.judging.specs.Log.{Verdict, block_refusal_lem, judged_from, judged}
-use Rattle.log.specs.Records.{entries, column_from, column, found, block_asked, stretch}
+use Rattle.logs.specs.Records.{entries, column_from, column, found, block_asked, stretch}
 use Rattle.places.specs.Places.{taken_at, setup_at_lem}
 use Rattle.reader.specs.Reading.{nexts}
 use Rattle.cells.specs.Decimal.{digits}

@@ -2,7 +2,7 @@
 use Rattle.std.specs.Prelude.{ℕ, zero, suc, ◌+◌, ◌*◌, ◌-◌, ◌/◌, ◌%◌, List, [], ◌∷◌, ◌++◌, length, take, set, replicate}
 use Rattle.rule.specs.declared.Setup.{Setup}
 use Rattle.judging.specs.Log.{Verdict, accepted, refused, judged}
-use Rattle.log.specs.declared.Found.{Found}
+use Rattle.logs.specs.declared.Found.{Found}
 use Rattle.places.specs.declared.Taken.{Taken}
 
 pub data Said : Type 0 where

@@ -5,10 +5,10 @@ use Rattle.words.specs.Words.{word}
 use Rattle.rule.specs.Setups.{asked}
 use Rattle.rule.specs.declared.Setup.{Setup}
 use Rattle.judging.specs.Log.{Verdict, accepted, refused}
-use Rattle.log.specs.Records.{setup_of_lem, column, found, block_asked, stretch}
-use Rattle.log.specs.declared.Found.{Found}
-use Rattle.log.specs.declared.Found.TheVariants.{Row, End}
-use Rattle.log.specs.declared.Record.{Record}
+use Rattle.logs.specs.Records.{setup_of_lem, column, found, block_asked, stretch}
+use Rattle.logs.specs.declared.Found.{Found}
+use Rattle.logs.specs.declared.Found.TheVariants.{Row, End}
+use Rattle.logs.specs.declared.Record.{Record}
 use Rattle.places.specs.Places.{taken_at, setup_at_lem}
 use Rattle.places.specs.declared.Taken.{Taken}
 use Rattle.reader.specs.Reading.{reader_on, setup_by, first_found, nexts}

@@ -9,9 +9,9 @@ use borrow.Author.Tests.{leb-true, ltb-true}
 use lib.Dec.{leb, ltb}
 use lib.ListN.{length}
 use Rattle.lists.proofs.Testing.{tested, and_true}
-use Rattle.log.specs.Records.{asked_times}
-use Rattle.log.specs.declared.Found.TheVariants.{Row, End}
-use Rattle.log.specs.declared.Record.{Record}
+use Rattle.logs.specs.Records.{asked_times}
+use Rattle.logs.specs.declared.Found.TheVariants.{Row, End}
+use Rattle.logs.specs.declared.Record.{Record}
 use Rattle.places.specs.Places.{row_number, has_row, taken_at, Stands}
 use Rattle.places.specs.declared.Taken.{Taken}
 use Rattle.places.proofs.Places.{first_stands, taken_none, taking, taken_stands}

@@ -4,7 +4,7 @@ use native.Mathlib.Omega.{arith}
 use mathlib.Core.Path.{◌≡◌, sym, ap, ◌∙◌}
 use borrow.Author.Rules.{rules}
 use Rattle.judging.specs.Log.{accepted, judged, told}
-use Rattle.log.proofs.Rows.{column_most}
+use Rattle.logs.proofs.Rows.{column_most}
 use Rattle.judging.proofs.Unique.{refused_small}
 use Rattle.face.specs.Face.{verdict_face}
 use Rattle.face.proofs.verdict_on.Statement.{statement}

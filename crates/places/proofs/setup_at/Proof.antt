@@ -1,11 +1,11 @@
--- `places::setup_at` meets its contract: past block 0 the log reads, and `log::setup_of` gives its setup. Assumes
+-- `places::setup_at` meets its contract: past block 0 the log reads, and `logs::setup_of` gives its setup. Assumes
 -- nothing.
 use native.Mathlib.Omega.{arith}
 use Prim.Native.Nat.{ℕ, ◌<◌, ◌≤◌}
 use mathlib.Core.Path.{◌≡◌, ◌∙◌}
 use mathlib.Core.List.{List}
 use borrow.Author.Tests.{le-leb, lt-leb}
-use Rattle.log.specs.Records.{setup_of_lem}
+use Rattle.logs.specs.Records.{setup_of_lem}
 use Rattle.rule.specs.Setups.{plain}
 use Rattle.places.specs.Places.{setup_at_lem}
 use Rattle.places.proofs.setup_at.Statement.{statement}

@@ -8,7 +8,7 @@ use borrow.Author.Rules.{rules}
 use borrow.Author.Tests.{leb-true, leb-false}
 use lib.ListN.{length}
 use Rattle.judging.specs.Blocks.{blocks}
-use Rattle.log.specs.Records.{asked_times}
+use Rattle.logs.specs.Records.{asked_times}
 use Rattle.places.specs.Places.{row_number, PlaceOf}
 use Rattle.places.proofs.Places.{has_row_zero, has_row_past, row_number_counted, has_row_over, block_few}
 use Rattle.places.proofs.Places.{taken_none, RowRead, row_read, taken_last, taken_next}

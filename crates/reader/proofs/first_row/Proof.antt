@@ -35,15 +35,15 @@ use Rattle.reader.specs.Reading.{taken_by, reader_on, Standing, OpenedOn, FirstO
 use Rattle.reader.specs.declared.First.{First}
 use Rattle.reader.specs.declared.Opened.{Opened}
 use Rattle.reader.specs.declared.Reader.{Reader}
-use Rattle.log.specs.declared.Found.{Found}
+use Rattle.logs.specs.declared.Found.{Found}
 use Rattle.reader.specs.contracts.First as F
 use Rattle.reader.proofs.First.TheLaws as F'
 use Rattle.reader.specs.contracts.Opened as O
 use Rattle.reader.proofs.Opened.TheLaws as O'
 use Rattle.reader.specs.contracts.Reader as T
 use Rattle.reader.proofs.Reader.TheLaws as T'
-use Rattle.log.specs.contracts.Found as S
-use Rattle.log.proofs.Found.TheLaws as S'
+use Rattle.logs.specs.contracts.Found as S
+use Rattle.logs.proofs.Found.TheLaws as S'
 use Rattle.walk_laws.proofs.Data.{known_at, typed_at}
 use Rattle.walk_laws.proofs.Steps.{answers, gone}
 use Rattle.reader.proofs.Walks.{B, slice_of, SliceOwn, found_data, Finds}

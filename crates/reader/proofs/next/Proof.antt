@@ -46,7 +46,7 @@ use Rattle.reader.specs.contracts.Reader as T
 use Rattle.reader.proofs.Reader.TheLaws as T'
 use Rattle.walk_laws.proofs.Calling.{by_walk}
 use Rattle.walk_laws.proofs.Data.{typed_at}
-use Rattle.log.specs.contracts.Found as S
+use Rattle.logs.specs.contracts.Found as S
 use Rattle.walk_laws.proofs.Steps.{answers, gone}
 use Rattle.reader.proofs.Walks as calls
 use Rattle.reader.proofs.Walks.{B, Core, found_data, taken_data, Takes, found_is, block_fits, record_fits}

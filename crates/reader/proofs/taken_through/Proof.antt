@@ -41,12 +41,12 @@ use denote.Triple.Spec.{triple_of}
 use denote.Triple.Walked.{says}
 use Rattle.reader.specs.Reading.{NextIs, Standing}
 use Rattle.reader.specs.declared.Reader.{Reader}
-use Rattle.log.specs.declared.Found.{Found}
+use Rattle.logs.specs.declared.Found.{Found}
 use Rattle.places.specs.declared.Taken.{Taken}
 use Rattle.reader.specs.contracts.Reader as T
 use Rattle.reader.proofs.Reader.TheLaws as T'
-use Rattle.log.specs.contracts.Found as S
-use Rattle.log.proofs.Found.TheLaws as S'
+use Rattle.logs.specs.contracts.Found as S
+use Rattle.logs.proofs.Found.TheLaws as S'
 use Rattle.walk_laws.proofs.Calling.{over}
 use Rattle.walk_laws.proofs.Data.{known_at, typed_at}
 use Rattle.walk_laws.proofs.Lying.{held_in, lies_out}

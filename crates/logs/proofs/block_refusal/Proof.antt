@@ -1,11 +1,11 @@
--- `log::block_refusal` meets its contract: the log's own refusal, else 34. Assumes nothing.
+-- `logs::block_refusal` meets its contract: the log's own refusal, else 34. Assumes nothing.
 use native.Mathlib.Omega.{arith}
 use borrow.Author.Rules.{rules}
 use mathlib.Core.Path.{sym, ap, ◌∙◌}
 use Rattle.judging.specs.Log.{told, Reads}
-use Rattle.log.proofs.Asking.{asked_refused, asked_zero, asked_inside, asked_past}
-use Rattle.log.proofs.block_refusal.Statement.{statement}
-use Rattle.log.proofs.block_refusal.Tie as tie
+use Rattle.logs.proofs.Asking.{asked_refused, asked_zero, asked_inside, asked_past}
+use Rattle.logs.proofs.block_refusal.Statement.{statement}
+use Rattle.logs.proofs.block_refusal.Tie as tie
 
 reads : (c : tie.After-enum-told) → Reads c.before.before.before.before.args.log.now
 reads c = sym c.before.before.judge.ensures ∙ ap told c.enum_told.given.1

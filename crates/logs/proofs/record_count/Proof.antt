@@ -1,10 +1,10 @@
--- `log::record_count` meets its contract: the last block's records stand after full blocks. Assumes nothing.
+-- `logs::record_count` meets its contract: the last block's records stand after full blocks. Assumes nothing.
 use native.Mathlib.Omega.{arith}
 use mathlib.Core.Path.{sym}
-use Rattle.log.proofs.Rows.{column_none, column_some}
+use Rattle.logs.proofs.Rows.{column_none, column_some}
 use borrow.Author.Rules.{rules}
-use Rattle.log.proofs.record_count.Statement.{statement}
-use Rattle.log.proofs.record_count.Tie as tie
+use Rattle.logs.proofs.record_count.Statement.{statement}
+use Rattle.logs.proofs.record_count.Tie as tie
 
 returns : tie.Need-returns
 returns c = sym (column_none _ c.before.before.requires 0 c.if1.true)

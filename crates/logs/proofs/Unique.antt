@@ -8,7 +8,7 @@ use Rattle.rule.specs.View.{Determined}
 use Rattle.rule.specs.declared.Setup.{Setup}
 use Rattle.judging.specs.Log.{Verdict, accepted, refused, judged, Reads}
 use Rattle.judging.proofs.Accepted.{refused-not}
-use Rattle.log.specs.Records.{setup_of_lem, row_list}
+use Rattle.logs.specs.Records.{setup_of_lem, row_list}
 
 -- what a byte string is: a log with its setup and its rows, or refused with a number and a block
 pub data Content : Type 0 where

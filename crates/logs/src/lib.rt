@@ -1,14 +1,16 @@
 // The desk's log form: reading the records of a log that was accepted. What its setup and rows are is said in specs/.
+#![tactic(auto)]
+
 ghost use Rattle.std.specs.Prelude.{◌≡◌, length};
 ghost use Rattle.judging.specs.Log.{told, Reads};
-ghost use Rattle.log.specs.Records.{setup_of_lem, asked_times, row_at, found, block_asked, stretch};
+ghost use Rattle.logs.specs.Records.{setup_of_lem, asked_times, row_at, found, block_asked, stretch};
 
 use judging::Judged;
 use rule::Setup;
 use words::word_at;
 
 // A record of a log.
-#[derive(Drop)]
+#[derive(Clone, Copy)]
 pub struct Record {
     pub time: u32,
     pub task: u32,
@@ -16,7 +18,7 @@ pub struct Record {
 }
 
 // A row of a log, or that there is none.
-#[derive(Drop)]
+#[derive(Clone, Copy)]
 pub enum Found {
     Row(Record),
     End,

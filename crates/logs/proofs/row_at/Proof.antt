@@ -1,11 +1,11 @@
--- `log::row_at` meets its contract: row i stands in block 1 + i / 41. Assumes nothing.
+-- `logs::row_at` meets its contract: row i stands in block 1 + i / 41. Assumes nothing.
 use native.Mathlib.Omega.{arith}
 use Prim.Native.Nat.{◌+◌, ◌≤◌}
 use lib.ListN.{length}
-use Rattle.log.proofs.Rows.{row_past, row_place, row_inside, row_here}
+use Rattle.logs.proofs.Rows.{row_past, row_place, row_inside, row_here}
 use borrow.Author.Rules.{rules}
-use Rattle.log.proofs.row_at.Statement.{statement}
-use Rattle.log.proofs.row_at.Tie as tie
+use Rattle.logs.proofs.row_at.Statement.{statement}
+use Rattle.logs.proofs.row_at.Tie as tie
 
 inside : (c : tie.Else1)
     → let s = c.before.before.before in

@@ -16,8 +16,8 @@ use Rattle.rule.specs.Calls.{Call, request}
 use Rattle.rule.proofs.Table.{length_rows, at_rows}
 use Rattle.judging.specs.Blocks.{blocks, block, count, records_to}
 use Rattle.judging.specs.Log.{Reads}
-use Rattle.log.specs.Records.{entries, column_from, column, asked_times, row_list, row_at, found}
-use Rattle.log.specs.declared.Found.TheVariants.{Row, End}
+use Rattle.logs.specs.Records.{entries, column_from, column, asked_times, row_list, row_at, found}
+use Rattle.logs.specs.declared.Found.TheVariants.{Row, End}
 use Rattle.judging.proofs.Blocks.{records_zero, records_more}
 use Rattle.judging.proofs.Accepted.{accepted_sized, accepted_counted, accepted_last, accepted_most}
 use Rattle.judging.proofs.Accepted.{word_block}

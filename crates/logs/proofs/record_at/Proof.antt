@@ -1,11 +1,11 @@
--- `log::record_at` meets its contract. Assumes nothing.
+-- `logs::record_at` meets its contract. Assumes nothing.
 use native.Mathlib.Omega.{arith}
 use mathlib.Core.Path.{ap, ◌∙◌}
 use borrow.Author.Rules.{rules}
-use Rattle.log.specs.declared.Found.TheVariants.{Row}
-use Rattle.log.proofs.Rows.{found_row, found_none}
-use Rattle.log.proofs.record_at.Statement.{statement}
-use Rattle.log.proofs.record_at.Tie as tie
+use Rattle.logs.specs.declared.Found.TheVariants.{Row}
+use Rattle.logs.proofs.Rows.{found_row, found_none}
+use Rattle.logs.proofs.record_at.Statement.{statement}
+use Rattle.logs.proofs.record_at.Tie as tie
 
 returns : tie.Need-returns
 returns c = found_none _ _ (omega arith)

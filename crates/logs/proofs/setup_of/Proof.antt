@@ -1,4 +1,4 @@
--- `log::setup_of` meets its contract: the words and the stretch of block 0 that its definition names, whose
+-- `logs::setup_of` meets its contract: the words and the stretch of block 0 that its definition names, whose
 -- setup is accepted. Assumes nothing.
 use native.Mathlib.Omega.{arith}
 use mathlib.Core.Path.{subst}
@@ -8,9 +8,9 @@ use Rattle.setups.specs.Judging.{JudgesSetup}
 use Rattle.setups.proofs.Judging.{judged_accepted}
 use Rattle.judging.proofs.Blocks.{setup_read}
 use Rattle.judging.proofs.Accepted.{accepted_sized}
-use Rattle.log.proofs.Setups.{accepted_setup}
-use Rattle.log.proofs.setup_of.Statement.{statement}
-use Rattle.log.proofs.setup_of.Tie as tie
+use Rattle.logs.proofs.Setups.{accepted_setup}
+use Rattle.logs.proofs.setup_of.Statement.{statement}
+use Rattle.logs.proofs.setup_of.Tie as tie
 
 part-first-end : tie.Need-slice-bounds-first-end
 part-first-end c = omega (arith, accepted_sized _ c.before.requires)

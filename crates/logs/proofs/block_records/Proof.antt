@@ -1,13 +1,13 @@
--- `log::block_records` meets its contract: a block that may be asked for lies inside the log, with at most 41
+-- `logs::block_records` meets its contract: a block that may be asked for lies inside the log, with at most 41
 -- records. Assumes nothing.
 use native.Mathlib.Omega.{arith}
 use mathlib.Core.Path.{◌≡◌, sym, ap, ◌∙◌}
 use Rattle.judging.specs.Log.{accepted, told}
-use Rattle.log.specs.Records.{block_asked}
-use Rattle.log.proofs.Asking.{Had, asked_had, stretch_given, stretch_refused}
+use Rattle.logs.specs.Records.{block_asked}
+use Rattle.logs.proofs.Asking.{Had, asked_had, stretch_given, stretch_refused}
 use borrow.Author.Rules.{rules}
-use Rattle.log.proofs.block_records.Statement.{statement}
-use Rattle.log.proofs.block_records.Tie as tie
+use Rattle.logs.proofs.block_records.Statement.{statement}
+use Rattle.logs.proofs.block_records.Tie as tie
 
 -- the block may be asked for
 allowed : (c : tie.After-enum-told)

@@ -7,9 +7,9 @@ use Rattle.rule.specs.Table.{rows}
 use Rattle.rule.specs.declared.Setup.{Setup}
 use Rattle.judging.specs.Blocks.{blocks, block, setup_in_lem, count}
 use Rattle.judging.specs.Log.{Verdict, accepted, refused, judged}
-use Rattle.log.specs.declared.Record.{Record}
-use Rattle.log.specs.declared.Found.{Found}
-use Rattle.log.specs.declared.Found.TheVariants.{Row, End}
+use Rattle.logs.specs.declared.Record.{Record}
+use Rattle.logs.specs.declared.Found.{Found}
+use Rattle.logs.specs.declared.Found.TheVariants.{Row, End}
 
 abbrev pub setup_of_lem : List ℕ → Setup
 setup_of_lem log = setup_in_lem (block log 0)

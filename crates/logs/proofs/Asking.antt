@@ -12,7 +12,7 @@ use Rattle.lists.proofs.Testing.{and_true}
 use Rattle.words.specs.Words.{word}
 use Rattle.judging.specs.Blocks.{blocks, block, count}
 use Rattle.judging.specs.Log.{Verdict, accepted, refused, judged, Reads}
-use Rattle.log.specs.Records.{after_log, block_asked, stretch}
+use Rattle.logs.specs.Records.{after_log, block_asked, stretch}
 use Rattle.judging.proofs.Accepted.{refused-not, cond_accepted, accepted_sized, accepted_counted, word_block}
 
 -- ---- what an accepted asking says
