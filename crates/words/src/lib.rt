@@ -1,4 +1,6 @@
 // Little-endian words of lent bytes, and a block's check. What both are is said in specs/.
+#![tactic(auto)]
+
 ghost use Rattle.std.specs.Prelude.{◌≡◌, ◌+◌, ◌<◌, length};
 ghost use Rattle.words.specs.Words.{word, check};
 
