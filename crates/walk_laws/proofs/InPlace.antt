@@ -12,9 +12,9 @@ use Prim.Native.Nat.{ℕ, suc}
 use mathlib.Core.Path.{◌≡◌, refl, ap, subst⁻¹}
 use mathlib.Core.List.{[], ◌∷◌, List}
 use seplogic.Ra.Ura.{Ura}
-use seplogic.Ra.TreeShare.{full_share}
+use base.Fraction.{full_share}
 use lib.Dec.{T as Holds}
-use mir.Syntax.{Name, Ty, ty_ref, named, mut, deref, field, place, copy, rv_opd, seq, assign, call, return, local}
+use mir.Syntax.{Callee as Name, Ty, ty_ref, named, mut, deref, field, place, copy, rv_opd, seq, assign, call, return, local}
 use mir.Syntax.{value_local, Fn}
 use mir.Val.{Val, WT, has_ty, vptr}
 use base.Logic.{SProp, ent, sep}
@@ -97,6 +97,8 @@ module _ (T : Declared) (L : LL.Laws T) (ps : List Data) (P : Answered T L)
       record {
         lifetimes = 1;
         outlives = [];
+        ty_params = [];
+        givens = 0;
         params = suc (after ps 0);
         locals =
             local S.mir value_local
@@ -200,7 +202,7 @@ module _ (T : Declared) (L : LL.Laws T) (ps : List Data) (P : Answered T L)
               (and_then ! (load ! (from_at ! (after_env ps bs (rest l₂ l₃) 1) (stop !)) (look ! 6 refl))
               (read_all 𝓛 1 (κ, tt) 0 tt ps bs a 5 _ _ (rest l₂ l₃) (λ k. suc (suc k)) (λ j d. refl) refl !))
               (λ v. con.gave T L ps D 𝓛 need Said h a' ! tt v (λ d e isV.
-              rewrite ! 0 (λ (us : List Val). ‵ (D.own d us)) (P.tells d (v ∷ []) isV) refl $
+              rewrite ! 0 (λ (us : List Val). ‵ (D.own_val d us)) (P.tells d (v ∷ []) isV) refl $
               peeks ! D (Is D) (shows 𝓛 D) d (val_d d ∷ []) (λ isD. drop ! $
               land ! (from_at ! (after_env ps bs (rest l₂ l₃) 0) (stop !))
               (init ! 7 refl
@@ -235,5 +237,5 @@ module _ (T : Declared) (L : LL.Laws T) (ps : List Data) (P : Answered T L)
           (Goes-ref 𝓛 1 0 tt (plain (λ _. R)), goes 1 𝓛 ps) name g (function g)
           (λ C Λ fm known. walked 𝓛 ended stayed (clauses 𝓤 need) (WpFn 𝓤 H C Λ (function g))
           (λ κs. (mut_vals, spells 1 κs ps)) (λ κs. (mut_Tells (named 0) κs.0 R, tell 1 κs ps))
-          (λ κs qs bounds a _ are. walk κs.0 qs.0 a.0.ptr.0 a.0.ptr.1
+          (λ κs qs bounds a _ are. walk κs.0 qs.0 a.0.ref_ptr.0 a.0.ref_ptr.1
           a.0.ghost_name a.0.now a.1 are.1 C Λ fm known))

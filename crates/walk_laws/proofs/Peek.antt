@@ -11,7 +11,7 @@ use Prim.Native.Nat.{ℕ, suc}
 use mathlib.Core.Path.{◌≡◌, refl}
 use mathlib.Core.List.{[], ◌∷◌, List}
 use seplogic.Ra.Ura.{Ura}
-use mir.Syntax.{Name, Ty, ty_ref, named, imm, deref, place, copy, rv_opd, seq, assign, call, return, local, value_local}
+use mir.Syntax.{Callee as Name, Ty, ty_ref, named, imm, deref, place, copy, rv_opd, seq, assign, call, return, local, value_local}
 use mir.Syntax.{Fn}
 use mir.Val.{Val, vptr}
 use base.Logic.{SProp, ent, sep}
@@ -76,6 +76,8 @@ module _ (T : Declared) (L : LL.Laws T) (ps : List Data) (S : Data)
       record {
         lifetimes = 1;
         outlives = [];
+        ty_params = [];
+        givens = 0;
         params = suc (after ps 0);
         locals =
             local S.mir value_local
@@ -122,11 +124,11 @@ module _ (T : Declared) (L : LL.Laws T) (ps : List Data) (S : Data)
 
         exits : (d : S.type.Denot) (v : Val) → Said h a' d
             → ent 𝓤
-            (⋆ 𝓛 (‵ (S.type.own d (v ∷ [])) ∷ ‵ (flft κ q) ∷ ‵ (fres δ (R.coded.code h))
+            (⋆ 𝓛 (‵ (S.type.own_val d (v ∷ [])) ∷ ‵ (flft κ q) ∷ ‵ (fres δ (R.coded.code h))
             ∷ ‵ (fshr_bor κ (λ s. part_at R s h b o)) ∷ []))
             (Post v)
         exits d v e =
-            qed 𝓛 (‵ (S.type.own d (v ∷ [])) ∷ ‵ (flft κ q) ∷ ‵ (fres δ (R.coded.code h))
+            qed 𝓛 (‵ (S.type.own_val d (v ∷ [])) ∷ ‵ (flft κ q) ∷ ‵ (fres δ (R.coded.code h))
             ∷ ‵ (fshr_bor κ (λ s. part_at R s h b o)) ∷ []) ∵
             suffices ! _
             (ends_at 𝓛 ended stayed (clauses 𝓤 need)
@@ -192,5 +194,5 @@ module _ (T : Declared) (L : LL.Laws T) (ps : List Data) (S : Data)
           (Goes-none_ref 𝓛 1 (0 ∷ []) tt (plain (λ _. R)) yes, goes 1 𝓛 ps) name g (function g)
           (λ C Λ fm known. walked 𝓛 ended stayed (clauses 𝓤 need) (WpFn 𝓤 H C Λ (function g))
           (λ κs. (shr_vals, spells 1 κs ps)) (λ κs. (shr_Tells (named 0) κs.0 R, tell 1 κs ps))
-          (λ κs qs bounds a _ are. walk κs.0 qs.0 a.0.ptr.0 a.0.ptr.1
+          (λ κs qs bounds a _ are. walk κs.0 qs.0 a.0.ref_ptr.0 a.0.ref_ptr.1
           0 a.0.now a.1 are.1 C Λ fm known))

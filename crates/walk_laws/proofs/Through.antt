@@ -12,9 +12,9 @@ use Prim.Native.Nat.{ℕ, suc}
 use mathlib.Core.Path.{◌≡◌, refl, ap, subst}
 use mathlib.Core.List.{[], ◌∷◌, List}
 use seplogic.Ra.Ura.{Ura}
-use seplogic.Ra.TreeShare.{full_share}
+use base.Fraction.{full_share}
 use lib.Dec.{T as Holds}
-use mir.Syntax.{Name, Sym, Ty, ty_ref, named, erased, mut, place, copy, rv_opd, addr_of, aggregate, seq, assign, call}
+use mir.Syntax.{Callee as Name, Sym, Ty, ty_ref, named, erased, mut, place, copy, rv_opd, addr_of, aggregate, seq, assign, call}
 use mir.Syntax.{return, local, value_local, memory_slot, Fn}
 use mir.Val.{Val, WT, has_ty, vptr}
 use base.Logic.{SProp, ent, sep, id⊢}
@@ -96,6 +96,8 @@ module _ (T : Declared) (L : LL.Laws T) (ps : List Data) (S D : Data) (ν : Sym)
       record {
         lifetimes = 0;
         outlives = [];
+        ty_params = [];
+        givens = 0;
         params = suc (after ps 0);
         locals =
             local τD value_local
@@ -220,7 +222,7 @@ module _ (T : Declared) (L : LL.Laws T) (ps : List Data) (S D : Data) (ν : Sym)
               (λ v.
               use1 𝓛
               (later (some (λ (s : S.type.Denot).
-              ((‵ (flft (α ∷ []) full_share) ⊛ ‵ ftrue) ⊛ ‵ (S.type.own s (v ∷ [])))
+              ((‵ (flft (α ∷ []) full_share) ⊛ ‵ ftrue) ⊛ ‵ (S.type.own_val s (v ∷ [])))
               ⊛ raw (ensured 𝓛 (con.lent R ps S.type) (con.lent_clauses R ps S.type 𝓤 need Claim)
               (α ∷ [], tt) (x l₂ α δ, a' α) tt s)))) (id⊢ 𝓤 _) $
               await ! tt $ pick ! (λ s. split ! $ move ! (1 ∷ []) $
@@ -232,7 +234,7 @@ module _ (T : Declared) (L : LL.Laws T) (ps : List Data) (S D : Data) (ν : Sym)
               pick ! (λ ws. split ! $ move ! (1 ∷ []) $ heard ! (Claim h (a'' α) s ws.0) (λ e. fsplit ! $
               move ! (2 ∷ []) $ split ! $ move ! (1 ∷ []) $
               peeks ! S.type (Is S.type) (shows 𝓛 S.type) s (v ∷ []) (λ isV.
-              rewrite ! 0 (λ (us : List Val). ‵ (S.type.own s us)) (S.tells s (v ∷ []) isV) refl $
+              rewrite ! 0 (λ (us : List Val). ‵ (S.type.own_val s us)) (S.tells s (v ∷ []) isV) refl $
               peeks ! S.type (Is S.type) (shows 𝓛 S.type) s (S.val s ∷ []) (λ isS. drop ! $
               -- [the token; the state's last value; …; the lender's part; ps; …]
               land ! (from_at ! (after_env ps bs (rest l₂ l₃ l₄ l₅) 1) (stop !))
