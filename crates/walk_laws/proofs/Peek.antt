@@ -11,8 +11,8 @@ use Prim.Native.Nat.{ℕ, suc}
 use mathlib.Core.Path.{◌≡◌, refl}
 use mathlib.Core.List.{[], ◌∷◌, List}
 use seplogic.Ra.Ura.{Ura}
-use mir.Syntax.{Callee as Name, Ty, ty_ref, named, imm, deref, place, copy, rv_opd, seq, assign, call, return, local, value_local}
-use mir.Syntax.{Fn}
+use mir.Syntax.{Callee as Name, Ty, ty_ref, named, imm, deref, place, copy, rv_opd, seq, assign, call, return}
+use mir.Syntax.{local, value_local, Fn}
 use mir.Val.{Val, vptr}
 use base.Logic.{SProp, ent, sep}
 use base.Fml.{Lft, Share, ftrue, flft}

@@ -14,8 +14,8 @@ use mathlib.Core.List.{[], ◌∷◌, List}
 use seplogic.Ra.Ura.{Ura}
 use base.Fraction.{full_share}
 use lib.Dec.{T as Holds}
-use mir.Syntax.{Callee as Name, Sym, Ty, ty_ref, named, erased, mut, place, copy, rv_opd, addr_of, aggregate, seq, assign, call}
-use mir.Syntax.{return, local, value_local, memory_slot, Fn}
+use mir.Syntax.{Callee as Name, Sym, Ty, ty_ref, named, erased, mut, place, copy, rv_opd, addr_of, aggregate, seq, assign}
+use mir.Syntax.{call, return, local, value_local, memory_slot, Fn}
 use mir.Val.{Val, WT, has_ty, vptr}
 use base.Logic.{SProp, ent, sep, id⊢}
 use base.Fml.{GName, ftrue, flft, flent, fat}
