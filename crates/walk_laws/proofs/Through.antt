@@ -236,7 +236,7 @@ module _ (T : Declared) (L : LL.Laws T) (ps : List Data) (S D : Data) (ν : Sym)
               peeks ! S.type (Is S.type) (shows 𝓛 S.type) s (v ∷ []) (λ isV.
               rewrite ! 0 (λ (us : List Val). ‵ (S.type.own_val s us)) (S.tells s (v ∷ []) isV) refl $
               peeks ! S.type (Is S.type) (shows 𝓛 S.type) s (S.val s ∷ []) (λ isS. drop ! $
-              -- [the token; the state's last value; …; the lender's part; ps; …]
+              -- [the token; the state's last value and its borrow; …; the lender's part; ps; …]
               land ! (from_at ! (after_env ps bs (rest l₂ l₃ l₄ l₅) 1) (stop !))
               (init ! 9 refl (typed_at S 𝓛 s v isV)) $
               rewrite ! 9 (λ (u : Val). ‵ (fat full_share S.mir l₃ 0 u)) (ap only (S.tells s (v ∷ []) isV)) refl $
