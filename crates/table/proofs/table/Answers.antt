@@ -23,7 +23,7 @@ run_table-requires c =
     let setup_fits : setup_refusal_lem wanted ≡ 0 = sym c.judged_setup-judged.ensures.number ∙ c.if-wrong-ne0.false in
     let setup_asked : c.judged_setup-judged.result.setup ≡ wanted = judged_accepted c.judged_setup-judged.ensures setup_fits in
     let args = c.args in
-    tabled_asked _ args.times.now args.tasks.now args.amounts.now args.result.now setup_asked
+    tabled_asked _ args.times.now args.tasks.now args.amounts.now args.res.now setup_asked
     setup_fits (sym c.column_refusal-misfit.ensures ∙ c.if-misfit-ne0.false)
 
 pub returns : goal.returns
