@@ -5,7 +5,7 @@ use seplogic.Ra.Ura.{Ura}
 use mir.Syntax.{Fn}
 use prog.Wp.{Calls, Loops, WpFn, Closed, Tables}
 use prog.Model.{Model}
-use prog.Routine.{Name, Routine, Env}
+use prog.Routine.{Callee as Name, Routine, Env}
 use types.Logic.{Logic}
 use contract.Running.{Running, tables, tables_of}
 use sound.WpLaws.{FmC, fm_of, WpFn-mono}

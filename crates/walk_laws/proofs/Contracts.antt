@@ -8,7 +8,7 @@ use Prim.Native.Nat.{ℕ}
 use mathlib.Core.Path.{◌≡◌, refl, sym}
 use mathlib.Core.List.{[], ◌∷◌, List}
 use seplogic.Ra.Ura.{Ura}
-use seplogic.Ra.TreeShare.{full_share}
+use base.Fraction.{full_share}
 use mir.Syntax.{named}
 use mir.Val.{Val, vptr}
 use base.Logic.{SProp, ent, snd∗, ex_e, id⊢}
@@ -113,11 +113,11 @@ module _ (T : Declared) (L : LL.Laws T) (ps : List Data) (S : RattleType) {M : T
     said d = ex_e 𝓤 _ (λ ws. snd∗ 𝓤 (sem 𝓛 (lasts (by_value R ps S) tt (h, a) ws)) (fact 𝓤 (Said h a d)))
 
     pub gave : {K : Type 0} {Γ : List (Item 𝓤)} {G : Goal 𝓤 H} → K → Soaks G → (v : Val)
-        → ((d : S.Denot) → Said h a d → Is S d (v ∷ []) → Seq K 𝓛 (‵ (S.own d (v ∷ [])) ∷ Γ) G)
+        → ((d : S.Denot) → Said h a d → Is S d (v ∷ []) → Seq K 𝓛 (‵ (S.own_val d (v ∷ [])) ∷ Γ) G)
         → Seq K 𝓛 (raw ((ByValue R ps S 𝓤 need Said 𝓛).post to v) ∷ Γ) G
     gave t soaks v k =
         use1 𝓛
-        (later (some (λ (d : S.Denot). (‵ ftrue ⊛ ‵ (S.own d (v ∷ []))) ⊛ raw
+        (later (some (λ (d : S.Denot). (‵ ftrue ⊛ ‵ (S.own_val d (v ∷ []))) ⊛ raw
         (ensured 𝓛 (by_value R ps S) (by_value_clauses R ps S 𝓤 need Said) tt (h, a) tt d)))) (id⊢ 𝓤 _) $
         await t soaks $ pick t (λ d. split t $ move t (1 ∷ []) $ use1 𝓛 (raw (fact 𝓤 (Said h a d))) (said d) $
         heard t (Said h a d) (λ e. split t $ drop t $ peeks t S (Is S) (shows 𝓛 S) d (v ∷ []) (k d e)))

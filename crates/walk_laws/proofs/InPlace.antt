@@ -12,10 +12,10 @@ use Prim.Native.Nat.{ℕ, suc}
 use mathlib.Core.Path.{◌≡◌, refl, ap, subst⁻¹}
 use mathlib.Core.List.{[], ◌∷◌, List}
 use seplogic.Ra.Ura.{Ura}
-use seplogic.Ra.TreeShare.{full_share}
+use base.Fraction.{full_share}
 use lib.Dec.{T as Holds}
-use mir.Syntax.{Name, Ty, ty_ref, named, mut, deref, field, place, copy, rv_opd, seq, assign, call, return, local}
-use mir.Syntax.{value_local, Fn}
+use mir.Syntax.{Callee as Name, Ty, ty_ref, named, mut, deref, field, place, copy, rv_opd, seq, assign, call, return}
+use mir.Syntax.{local, value_local, Fn}
 use mir.Val.{Val, WT, has_ty, vptr}
 use base.Logic.{SProp, ent, sep}
 use base.Fml.{GName, Lft, Share, ftrue, flft, fobs, fbor, fat}
@@ -82,31 +82,38 @@ module _ (T : Declared) (L : LL.Laws T) (ps : List Data) (P : Answered T L)
   abbrev stayed : Stays ended.signature.params ended.kept
   stayed = (stay_ref (0 ∷ []) tt (plain (λ _. R)), stay 1 ps)
 
-  -- the places of f's locals: the answer, the reference, the parameters, g's result, the state
+  -- the places of f's locals: the answer, the reference, the parameters, g's result, the state, the next
+  -- state
   abbrev at_d : ℕ
   at_d = suc (suc (after ps 0))
 
   abbrev at_r : ℕ
   at_r = suc (suc (after ps 1))
 
-  abbrev rest : ℕ → ℕ → List (Ty × ℕ)
-  rest l₂ l₃ = (τD, l₂) ∷ (τR, l₃) ∷ []
+  abbrev at_n : ℕ
+  at_n = suc (suc (after ps 2))
+
+  abbrev rest : ℕ → ℕ → ℕ → List (Ty × ℕ)
+  rest l₂ l₃ l₄ = (τD, l₂) ∷ (τR, l₃) ∷ (τR, l₄) ∷ []
 
   abbrev pub function : Name → Fn
   function g =
       record {
         lifetimes = 1;
         outlives = [];
+        ty_params = [];
+        givens = 0;
         params = suc (after ps 0);
         locals =
             local S.mir value_local
             ∷ local (ty_ref (named 0) mut (pointee R.written)) value_local
-            ∷ locals ps (local τD value_local ∷ local τR value_local ∷ []);
+            ∷ locals ps (local τD value_local ∷ local τR value_local ∷ local τR value_local ∷ []);
         body =
             seq (assign (place at_r []) (rv_opd (copy (place 1 (deref τR ∷ [])))))
             (seq (call g (copy (place at_r []) ∷ operands (λ k. suc (suc k)) ps) (place at_d []))
-            (seq (assign (place 1 (deref τR ∷ [])) (rv_opd (copy (place at_d (field 1 ∷ [])))))
-            (seq (assign (place 0 []) (rv_opd (copy (place at_d (field 0 ∷ []))))) return)));
+            (seq (assign (place at_n []) (rv_opd (copy (place at_d (field 1 ∷ [])))))
+            (seq (assign (place 1 (deref τR ∷ [])) (rv_opd (copy (place at_n []))))
+            (seq (assign (place 0 []) (rv_opd (copy (place at_d (field 0 ∷ []))))) return))));
       }
 
   module _ {M : Type 1} (𝓤 : Ura M) (need : T.D → Values 0 tt ps → SProp 𝓤) where
@@ -183,47 +190,52 @@ module _ (T : Declared) (L : LL.Laws T) (ps : List Data) (P : Answered T L)
               split ! $ split ! $ move ! (2 ∷ []) $ fsplit ! $ fsplit3 ! $ drop ! $ move ! (0 ∷ 1 ∷ 3 ∷ 5 ∷ []) $
               -- [obs; the borrow; the token; need; …]
               enter ! C Λ (function g) (vptr b o ∷ machine 1 (κ, tt) ps a) _ $
-              alloc1 ! (λ l₀. alloc1 ! (λ l₁. alloc_all ! ps (λ bs. alloc1 ! (λ l₂. alloc1 ! (λ l₃. alloc0 ! $
-              params1 ! $ pass1 ! (init ! 5 refl (tt, tt)) $ move ! (4 ∷ []) $ pass_all 1 (κ, tt) ! ps bs a is $
+              alloc1 ! (λ l₀. alloc1 ! (λ l₁. alloc_all ! ps (λ bs. alloc1 ! (λ l₂. alloc1 ! (λ l₃. alloc1 ! (λ l₄.
+              alloc0 ! $
+              params1 ! $ pass1 ! (init ! 7 refl (tt, tt)) $ move ! (6 ∷ []) $ pass_all 1 (κ, tt) ! ps bs a is $
               pass0 ! $
-              move ! (9 ∷ 10 ∷ 11 ∷ []) $ opens ! tt R {h = h} b o (λ vs.
+              move ! (11 ∷ 12 ∷ 13 ∷ []) $ opens ! tt R {h = h} b o (λ vs.
               spelt ! R (Is R) (shows 𝓛 R) vals (LL.tells T L) full_share h vs b o $
               move ! (1 ∷ []) $ peeks ! R (Is R) (shows 𝓛 R) h (vals h) (λ was. drop ! $
-              -- [the cell; the open borrow; obs; auth; ps; state; …; result; …; reference; …; room for the answer;
-              -- …; need; …]
-              assigns ! (of_opd ! (load ! (from ! (hop ! (look ! 9 refl) (stop !))) (look_raw ! 0 refl)))
-              (from_at ! (after_env ps bs (rest l₂ l₃) 1) (stop !))
-              (init ! 5 refl ((LL.lawful T L 𝓛).typed h _ was).0) $
-              move ! (13 ∷ []) $ use1 𝓛 (raw ((Callee 𝓤 need 𝓛).pre to))
+              -- [the cell; the open borrow; obs; auth; ps; room for the next state; …; state; …; result; …;
+              -- reference; …; room for the answer; …; need; …]
+              assigns ! (of_opd ! (load ! (from ! (hop ! (look ! 11 refl) (stop !))) (look_raw ! 0 refl)))
+              (from_at ! (after_env ps bs (rest l₂ l₃ l₄) 1) (stop !))
+              (init ! 7 refl ((LL.lawful T L 𝓛).typed h _ was).0) $
+              move ! (15 ∷ []) $ use1 𝓛 (raw ((Callee 𝓤 need 𝓛).pre to))
               (con.asked T L ps D 𝓛 need Said h a' plainR was (known_across 1 0 (κ, tt) tt ps a is)) $
               calls_at ! fm (Callee 𝓤 need 𝓛) known to
-              (and_then ! (load ! (from_at ! (after_env ps bs (rest l₂ l₃) 1) (stop !)) (look ! 6 refl))
-              (read_all 𝓛 1 (κ, tt) 0 tt ps bs a 5 _ _ (rest l₂ l₃) (λ k. suc (suc k)) (λ j d. refl) refl !))
+              (and_then ! (load ! (from_at ! (after_env ps bs (rest l₂ l₃ l₄) 1) (stop !)) (look ! 8 refl))
+              (read_all 𝓛 1 (κ, tt) 0 tt ps bs a 5 _ _ (rest l₂ l₃ l₄) (λ k. suc (suc k)) (λ j d. refl) refl !))
               (λ v. con.gave T L ps D 𝓛 need Said h a' ! tt v (λ d e isV.
-              rewrite ! 0 (λ (us : List Val). ‵ (D.own d us)) (P.tells d (v ∷ []) isV) refl $
+              rewrite ! 0 (λ (us : List Val). ‵ (D.own_val d us)) (P.tells d (v ∷ []) isV) refl $
               peeks ! D (Is D) (shows 𝓛 D) d (val_d d ∷ []) (λ isD. drop ! $
-              land ! (from_at ! (after_env ps bs (rest l₂ l₃) 0) (stop !))
-              (init ! 7 refl
+              land ! (from_at ! (after_env ps bs (rest l₂ l₃ l₄) 0) (stop !))
+              (init ! 9 refl
               (subst⁻¹ (λ (us : List Val). Holds (has_ty τD (only us)) × WT (only us)) (P.tells d (v ∷ []) isV)
               (P.typed 𝓛 d isD))) $
-              rewrite ! 7 (λ (u : Val). ‵ (fat full_share τD l₂ 0 u)) (ap only (P.tells d (v ∷ []) isV)) refl $
+              rewrite ! 9 (λ (u : Val). ‵ (fat full_share τD l₂ 0 u)) (ap only (P.tells d (v ∷ []) isV)) refl $
               assigns !
-              (of_opd ! (load ! (from_at ! (after_env ps bs (rest l₂ l₃) 0) (fld ! refl (stop !)))
-              (look_in ! 7 (sub ! 1 refl (whole !)))))
-              (from ! (hop ! (look ! 9 refl) (stop !)))
+              (of_opd ! (load ! (from_at ! (after_env ps bs (rest l₂ l₃ l₄) 0) (fld ! refl (stop !)))
+              (look_in ! 9 (sub ! 1 refl (whole !)))))
+              (from_at ! (after_env ps bs (rest l₂ l₃ l₄) 2) (stop !))
+              (init ! 5 refl ((LL.lawful T L 𝓛).typed (P.next d) _ (P.next_is_lem d isD)).0) $
+              assigns ! (of_opd ! (load ! (from_at ! (after_env ps bs (rest l₂ l₃ l₄) 2) (stop !)) (look ! 5 refl)))
+              (from ! (hop ! (look ! 11 refl) (stop !)))
               (store_raw ! 0 refl ((LL.lawful T L 𝓛).typed (P.next d) _ (P.next_is_lem d isD)).0) $
               assigns !
-              (of_opd ! (load ! (from_at ! (after_env ps bs (rest l₂ l₃) 0) (fld ! refl (stop !)))
-              (look_in ! 7 (sub ! 0 refl (whole !)))))
-              (from ! (stop !)) (init ! 11 refl (S.typed 𝓛 (P.answer d) (P.answer_is d isD))) $
+              (of_opd ! (load ! (from_at ! (after_env ps bs (rest l₂ l₃ l₄) 0) (fld ! refl (stop !)))
+              (look_in ! 9 (sub ! 0 refl (whole !)))))
+              (from ! (stop !)) (init ! 13 refl (S.typed 𝓛 (P.answer d) (P.answer_is d isD))) $
               owned ! R (Is R) (LL.makes T plainR 𝓛) (P.next d) _ (P.next_is_lem d isD) $ move ! (1 ∷ 0 ∷ []) $
               closes ! tt R (P.next d) (vals (P.next d)) b o $
-              -- [obs; the borrow; the token; ps; state; …; result; …; reference; …; answer; …]
-              returns ! (look ! 10 refl) $ forget ! 4 refl $ forget ! 6 refl $ forget ! 8 refl $ forget ! 10 refl $
+              -- [obs; the borrow; the token; ps; next state; …; state; …; result; …; reference; …; answer; …]
+              returns ! (look ! 12 refl) $ forget ! 4 refl $ forget ! 6 refl $ forget ! 8 refl $ forget ! 10 refl $
+              forget ! 12 refl $
               move ! (3 ∷ []) $ use1 𝓛 (‵ (rooms ps bs)) (forget_all 𝓛 1 (κ, tt) ps bs a) $
-              move ! (10 ∷ 11 ∷ []) $ free1 ! $ move ! (8 ∷ 9 ∷ []) $ free1 ! $ free_all ! ps bs $
-              move ! (5 ∷ 6 ∷ []) $ free1 ! $ move ! (3 ∷ 4 ∷ []) $ free1 ! $ free0 ! $
-              keep ! (0 ∷ 1 ∷ 2 ∷ []) $ by ! (exits d e isD)))))))))))
+              move ! (12 ∷ 13 ∷ []) $ free1 ! $ move ! (10 ∷ 11 ∷ []) $ free1 ! $ free_all ! ps bs $
+              move ! (7 ∷ 8 ∷ []) $ free1 ! $ move ! (5 ∷ 6 ∷ []) $ free1 ! $ move ! (3 ∷ 4 ∷ []) $ free1 ! $ free0 ! $
+              keep ! (0 ∷ 1 ∷ 2 ∷ []) $ by ! (exits d e isD))))))))))))
 
       -- ---- the law
 
@@ -235,5 +247,5 @@ module _ (T : Declared) (L : LL.Laws T) (ps : List Data) (P : Answered T L)
           (Goes-ref 𝓛 1 0 tt (plain (λ _. R)), goes 1 𝓛 ps) name g (function g)
           (λ C Λ fm known. walked 𝓛 ended stayed (clauses 𝓤 need) (WpFn 𝓤 H C Λ (function g))
           (λ κs. (mut_vals, spells 1 κs ps)) (λ κs. (mut_Tells (named 0) κs.0 R, tell 1 κs ps))
-          (λ κs qs bounds a _ are. walk κs.0 qs.0 a.0.ptr.0 a.0.ptr.1
+          (λ κs qs bounds a _ are. walk κs.0 qs.0 a.0.ref_ptr.0 a.0.ref_ptr.1
           a.0.ghost_name a.0.now a.1 are.1 C Λ fm known))

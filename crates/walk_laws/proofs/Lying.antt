@@ -4,7 +4,7 @@ use Prim.Native.Nat.{ℕ}
 use mathlib.Core.Path.{◌≡◌, refl, subst}
 use mathlib.Core.List.{[], ◌∷◌, List}
 use seplogic.Ra.Ura.{Ura}
-use seplogic.Ra.TreeShare.{full_share}
+use base.Fraction.{full_share}
 use mir.Syntax.{Ty}
 use mir.Raw.{raw}
 use mir.Val.{Val}
@@ -34,15 +34,15 @@ module _ (T : Declared) (L : LL.Laws T) {M : Type 1} {𝓤 : Ura M} (𝓛 : Logi
   vals = LL.vals T L
 
   module _ (τ : Ty) (same : raw τ ≡ raw τR) (h : T.D) (b o : ℕ) where
-    pub held_in : ent 𝓤 (⋆ 𝓛 (‵ (fat full_share τ b o (LL.val T L h)) ∷ ‵ (R.own h (vals h)) ∷ []))
+    pub held_in : ent 𝓤 (⋆ 𝓛 (‵ (fat full_share τ b o (LL.val T L h)) ∷ ‵ (R.own_val h (vals h)) ∷ []))
         (sem 𝓛 ((mem R).own_at h b o))
     unfolding part_of
     held_in =
-        qed 𝓛 (‵ (fat full_share τ b o (LL.val T L h)) ∷ ‵ (R.own h (vals h)) ∷ []) ∵
+        qed 𝓛 (‵ (fat full_share τ b o (LL.val T L h)) ∷ ‵ (R.own_val h (vals h)) ∷ []) ∵
         use1 𝓛 (‵ (cell_at full_share R.mir (vals h) b o))
         (subst (λ (ρ : Ty). ent 𝓤 (H.at full_share τ b o (LL.val T L h)) (H.at full_share ρ b o (LL.val T L h))) same
         (𝓛.laws.at_raw full_share τ b o (LL.val T L h))) $ fjoin ! $
-        fpack ! (List Val) (λ us. fsep (cell_at full_share R.mir us b o) (R.own h us)) (vals h) $ done !
+        fpack ! (List Val) (λ us. fsep (cell_at full_share R.mir us b o) (R.own_val h us)) (vals h) $ done !
 
     pub lies_out : ent 𝓤 (sem 𝓛 ((mem R).own_at h b o))
         (guard 𝓤 (Is R h (vals h)) (H.at full_share τ b o (LL.val T L h)))

@@ -70,7 +70,7 @@ module _ (n : ℕ) where
     has_owns : (ps : List Data) (a : Values ps)
         → has_of κs (slots ps) (kept ps) (stay ps) a (finals ps a) (lists ps a) ≡ owns (rows ps) a (lists ps a)
     has_owns [] a = refl
-    has_owns (p ∷ ps) a = ap (fsep (p.type.own a.0 (p.val a.0 ∷ []))) (has_owns ps a.1)
+    has_owns (p ∷ ps) a = ap (fsep (p.type.own_val a.0 (p.val a.0 ∷ []))) (has_owns ps a.1)
 
     module _ {M : Type 1} {𝓤 : Ura M} (𝓛 : Logic 𝓤) where
       make : (ps : List Data) → Makess 𝓛 (rows ps) (Ises (rows ps))

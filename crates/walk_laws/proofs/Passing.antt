@@ -5,7 +5,7 @@ use Prim.Native.Nat.{ℕ, zero, suc}
 use mathlib.Core.Path.{◌≡◌, refl, subst, subst⁻¹}
 use mathlib.Core.List.{List, [], ◌∷◌}
 use seplogic.Ra.Ura.{Ura}
-use seplogic.Ra.TreeShare.{full_share}
+use base.Fraction.{full_share}
 use lib.ListN.{get_or}
 use mir.Syntax.{Ty, Step as PStep, place, Opd as Operand, copy, Local, local, value_local}
 use base.Logic.{ent, sep, via}

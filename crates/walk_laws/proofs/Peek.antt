@@ -11,24 +11,24 @@ use Prim.Native.Nat.{ℕ, suc}
 use mathlib.Core.Path.{◌≡◌, refl}
 use mathlib.Core.List.{[], ◌∷◌, List}
 use seplogic.Ra.Ura.{Ura}
-use mir.Syntax.{Name, Ty, ty_ref, named, imm, deref, place, copy, rv_opd, seq, assign, call, return, local, value_local}
-use mir.Syntax.{Fn}
+use mir.Syntax.{Callee as Name, Ty, ty_ref, named, imm, deref, place, copy, rv_opd, seq, assign, call, return}
+use mir.Syntax.{local, value_local, Fn}
 use mir.Val.{Val, vptr}
 use base.Logic.{SProp, ent, sep}
-use base.Fml.{GName, Lft, Share, ftrue, flft, fres, fshr_bor}
+use base.Fml.{Lft, Share, ftrue, flft}
 use prog.Wp.{Calls, Loops, WpFn, Closed}
 use types.Logic.{Logic}
 use contract.Running.{Running, tables}
 use prog.Model.{Model}
 use prog.Routine.{Routine, Env}
 use types.Kit.{‵, raw, ◌⊛◌, ⋆, ◌$◌, ◌∵◌, !, qed, by, move, keep, drop, use0, use1, split, join, fsplit}
-use types.Kit.{fsplit3, fjoin, fjoin3, feq_i, suffices, frame, done}
+use types.Kit.{fjoin, feq_i, suffices, frame, done}
 use types.Run.{look, look_raw, init, forget, stop, hop, from, load, of_opd, and_then, assigns, land, returns, enter}
 use types.Run.{alloc1, alloc0, params1, pass1, pass0, free1, free0}
 use sound.WpLaws.{FmC}
 use denote.RattleType.{RattleType, owns}
 use denote.Laws.{Is, shows}
-use denote.Memory.{part_at, pointee}
+use denote.Memory.{hidden_shr, pointee}
 use denote.Ref.{Bor, ShrRef, shr_vals, shr_Tells}
 use denote.Signature.{plain}
 use denote.Steps.{looks, shuts, peeks, nothing}
@@ -76,6 +76,8 @@ module _ (T : Declared) (L : LL.Laws T) (ps : List Data) (S : Data)
       record {
         lifetimes = 1;
         outlives = [];
+        ty_params = [];
+        givens = 0;
         params = suc (after ps 0);
         locals =
             local S.mir value_local
@@ -101,7 +103,7 @@ module _ (T : Declared) (L : LL.Laws T) (ps : List Data) (S : Data)
         (need : T.D → Values 0 tt ps → SProp 𝓤) (γ : Env) (name g : Name) where
       open 𝓛 use {H}
 
-      module _ (κ : Lft) (q : Share) (b o : ℕ) (δ : GName) (h : T.D) (a : Values 1 (κ, tt) ps)
+      module _ (κ : Lft) (q : Share) (b o : ℕ) (h : T.D) (a : Values 1 (κ, tt) ps)
           (is : Known 1 (κ, tt) ps a) where
         -- the parameters as g has them
         abbrev a' : Values 0 tt ps
@@ -122,18 +124,16 @@ module _ (T : Declared) (L : LL.Laws T) (ps : List Data) (S : Data)
 
         exits : (d : S.type.Denot) (v : Val) → Said h a' d
             → ent 𝓤
-            (⋆ 𝓛 (‵ (S.type.own d (v ∷ [])) ∷ ‵ (flft κ q) ∷ ‵ (fres δ (R.coded.code h))
-            ∷ ‵ (fshr_bor κ (λ s. part_at R s h b o)) ∷ []))
+            (⋆ 𝓛 (‵ (S.type.own_val d (v ∷ [])) ∷ ‵ (flft κ q) ∷ ‵ (hidden_shr R κ h b o) ∷ []))
             (Post v)
         exits d v e =
-            qed 𝓛 (‵ (S.type.own d (v ∷ [])) ∷ ‵ (flft κ q) ∷ ‵ (fres δ (R.coded.code h))
-            ∷ ‵ (fshr_bor κ (λ s. part_at R s h b o)) ∷ []) ∵
+            qed 𝓛 (‵ (S.type.own_val d (v ∷ [])) ∷ ‵ (flft κ q) ∷ ‵ (hidden_shr R κ h b o) ∷ []) ∵
             suffices ! _
             (ends_at 𝓛 ended stayed (clauses 𝓤 need)
             (((κ, tt), (q, tt), tt, x, (vptr b o ∷ [], lists 1 (κ, tt) ps a)), tt)
             v d (tt, finals 1 (κ, tt) ps a) (tt, fits 1 (κ, tt) ps a)) $
-            says ! e $ nothing ! $ move ! (2 ∷ 0 ∷ []) $ join ! $ frame ! $ move ! (1 ∷ 2 ∷ []) $
-            feq_i ! (List Val) (vptr b o ∷ []) (vptr b o ∷ []) refl $ fjoin3 ! $
+            says ! e $ nothing ! $ move ! (2 ∷ 0 ∷ []) $ join ! $ frame ! $ move ! (1 ∷ []) $
+            feq_i ! (List Val) (vptr b o ∷ []) (vptr b o ∷ []) refl $ fjoin ! $
             use0 𝓛 (‵ (has_of (κ, tt) (slots 1 ps) (kept 1 ps) (stay 1 ps) a (finals 1 (κ, tt) ps a)
             (lists 1 (κ, tt) ps a)))
             (had 1 (κ, tt) 𝓛 ps a is) $ move ! (1 ∷ 0 ∷ []) $ fjoin ! $ frame ! $ done !
@@ -151,26 +151,25 @@ module _ (T : Declared) (L : LL.Laws T) (ps : List Data) (S : Data)
               (((‵ (flft κ q) ⊛ ‵ ftrue)
               ⊛ ‵ (owns (ShrRef (named 0) κ R ∷ rows 1 (κ, tt) ps) x (vptr b o ∷ [], lists 1 (κ, tt) ps a)))
               ∷ raw (need h a') ∷ []) ∵
-              split ! $ split ! $ move ! (2 ∷ []) $ fsplit ! $ fsplit3 ! $ drop ! $ move ! (1 ∷ 3 ∷ 0 ∷ 5 ∷ []) $
-              -- [the borrow; the token; what says h; need; …]
+              split ! $ split ! $ move ! (2 ∷ []) $ fsplit ! $ fsplit ! $ drop ! $ move ! (0 ∷ 2 ∷ 4 ∷ []) $
+              -- [the borrow; the token; need; …]
               enter ! C Λ (function g) (vptr b o ∷ machine 1 (κ, tt) ps a) _ $
               alloc1 ! (λ l₀. alloc1 ! (λ l₁. alloc_all ! ps (λ bs. alloc1 ! (λ l₂. alloc0 ! $
               params1 ! $ pass1 ! (init ! 3 refl (tt, tt)) $ move ! (2 ∷ []) $ pass_all 1 (κ, tt) ! ps bs a is $
               pass0 ! $
               move ! (7 ∷ 8 ∷ []) $
-              looks ! tt R (Is R) (shows 𝓛 R) vals (LL.tells T L) (LL.copy T copyR 𝓛) h b o (λ q' vs.
+              looks ! tt R (LL.copied T copyR 𝓛).opens h b o (λ q' vs.
               spelt ! R (Is R) (shows 𝓛 R) vals (LL.tells T L) q' h vs b o $
               move ! (1 ∷ []) $ peeks ! R (Is R) (shows 𝓛 R) h (vals h) (λ was. move ! (1 ∷ 0 ∷ []) $
               -- [the cell; what h owns; the open borrow; the borrow; ps; state; …; reference; …; room for the
-              -- answer; …; what says h; need; …]
+              -- answer; …; need; …]
               assigns ! (of_opd ! (load ! (from ! (hop ! (look ! 7 refl) (stop !))) (look_raw ! 0 refl)))
               (from_at ! (after_env ps bs ((τR, l₂) ∷ []) 0) (stop !))
               (init ! 5 refl ((LL.lawful T L 𝓛).typed h _ was).0) $
               shuts ! tt R q' h (vals h) b o $
-              move ! (10 ∷ []) $ use1 𝓛 (raw ((Callee 𝓤 need 𝓛).pre to))
+              move ! (9 ∷ []) $ use1 𝓛 (raw ((Callee 𝓤 need 𝓛).pre to))
               (con.asked T L ps S.type 𝓛 need Said h a' plainR was (known_across 1 0 (κ, tt) tt ps a is)) $
-              -- [what g asks; the token; the borrow; ps; state; …; reference; …; room for the answer; …; what says
-              -- h; …]
+              -- [what g asks; the token; the borrow; ps; state; …; reference; …; room for the answer; …]
               calls_at ! fm (Callee 𝓤 need 𝓛) known to
               (and_then ! (load ! (from_at ! (after_env ps bs ((τR, l₂) ∷ []) 0) (stop !)) (look ! 4 refl))
               (read_all 𝓛 1 (κ, tt) 0 tt ps bs a 3 _ _ ((τR, l₂) ∷ []) (λ k. suc (suc k)) (λ j d. refl) refl !))
@@ -180,7 +179,7 @@ module _ (T : Declared) (L : LL.Laws T) (ps : List Data) (S : Data)
               move ! (3 ∷ []) $ use1 𝓛 (‵ (rooms ps bs)) (forget_all 𝓛 1 (κ, tt) ps bs a) $
               move ! (8 ∷ 9 ∷ []) $ free1 ! $ move ! (6 ∷ 7 ∷ []) $ free1 ! $ free_all ! ps bs $
               move ! (3 ∷ 4 ∷ []) $ free1 ! $ free0 ! $
-              keep ! (0 ∷ 1 ∷ 3 ∷ 2 ∷ []) $ by ! (exits d v e)))))))))
+              keep ! (0 ∷ 1 ∷ 2 ∷ []) $ by ! (exits d v e)))))))))
 
       -- ---- the law
 
@@ -192,5 +191,5 @@ module _ (T : Declared) (L : LL.Laws T) (ps : List Data) (S : Data)
           (Goes-none_ref 𝓛 1 (0 ∷ []) tt (plain (λ _. R)) yes, goes 1 𝓛 ps) name g (function g)
           (λ C Λ fm known. walked 𝓛 ended stayed (clauses 𝓤 need) (WpFn 𝓤 H C Λ (function g))
           (λ κs. (shr_vals, spells 1 κs ps)) (λ κs. (shr_Tells (named 0) κs.0 R, tell 1 κs ps))
-          (λ κs qs bounds a _ are. walk κs.0 qs.0 a.0.ptr.0 a.0.ptr.1
-          0 a.0.now a.1 are.1 C Λ fm known))
+          (λ κs qs bounds a _ are. walk κs.0 qs.0 a.0.ref_ptr.0 a.0.ref_ptr.1
+          a.0.now a.1 are.1 C Λ fm known))

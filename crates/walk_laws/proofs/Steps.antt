@@ -3,7 +3,7 @@ use mathlib.Core.Path.{◌≡◌, subst}
 use Prim.Native.Nat.{ℕ, zero}
 use mathlib.Core.List.{List, [], ◌∷◌}
 use seplogic.Ra.Ura.{Ura}
-use seplogic.Ra.TreeShare.{full_share}
+use base.Fraction.{full_share}
 use mir.Syntax.{Ty}
 use mir.Val.{Val}
 use base.Logic.{SProp, ent, sep, via, mono_l, mono_r, assoc', id⊢}
@@ -24,13 +24,13 @@ module _ {M : Type 1} {𝓤 : Ura M} {𝓛 : Logic 𝓤} {K : Type 0} {Γ : List
   pub answers : K → {G : Goal 𝓤 H} → Soaks G → (R : RattleType) (κ : Lft) (q : Share) {Ensured : R.Denot → SProp 𝓤}
       (Says : R.Denot → Type 0) → ((r : R.Denot) → ent 𝓤 (Ensured r) (fact 𝓤 (Says r))) → (v : Val)
       → ((r : R.Denot) → Says r → Is R r (v ∷ [])
-      → Seq K 𝓛 (‵ (R.own r (v ∷ [])) ∷ (‵ (flft κ q) ⊛ ‵ ftrue) ∷ Γ) G)
+      → Seq K 𝓛 (‵ (R.own_val r (v ∷ [])) ∷ (‵ (flft κ q) ⊛ ‵ ftrue) ∷ Γ) G)
       → Seq K 𝓛
-      (raw (mean 𝓛 (later (some (λ (r : R.Denot). ((‵ (flft κ q) ⊛ ‵ ftrue) ⊛ ‵ (R.own r (v ∷ [])))
+      (raw (mean 𝓛 (later (some (λ (r : R.Denot). ((‵ (flft κ q) ⊛ ‵ ftrue) ⊛ ‵ (R.own_val r (v ∷ [])))
       ⊛ raw (Ensured r))))) ∷ Γ) G
   answers t z R κ q {Ensured} Says said v k =
       use1 𝓛
-      (later (some (λ (r : R.Denot). ((‵ (flft κ q) ⊛ ‵ ftrue) ⊛ ‵ (R.own r (v ∷ []))) ⊛ raw (Ensured r))))
+      (later (some (λ (r : R.Denot). ((‵ (flft κ q) ⊛ ‵ ftrue) ⊛ ‵ (R.own_val r (v ∷ []))) ⊛ raw (Ensured r))))
       (id⊢ 𝓤 _) $
       await t z $ pick t (λ r. split t $ move t (1 ∷ []) $ use1 𝓛 (raw (fact 𝓤 (Says r))) (said r) $
       heard t (Says r) (λ e. split t $ move t (1 ∷ []) $

@@ -12,10 +12,10 @@ use Prim.Native.Nat.{ℕ, suc}
 use mathlib.Core.Path.{◌≡◌, refl, ap, subst}
 use mathlib.Core.List.{[], ◌∷◌, List}
 use seplogic.Ra.Ura.{Ura}
-use seplogic.Ra.TreeShare.{full_share}
+use base.Fraction.{full_share}
 use lib.Dec.{T as Holds}
-use mir.Syntax.{Name, Sym, Ty, ty_ref, named, erased, mut, place, copy, rv_opd, addr_of, aggregate, seq, assign, call}
-use mir.Syntax.{return, local, value_local, memory_slot, Fn}
+use mir.Syntax.{Callee as Name, Sym, Ty, ty_ref, named, erased, mut, place, copy, rv_opd, addr_of, aggregate, seq, assign}
+use mir.Syntax.{call, return, local, value_local, memory_slot, Fn}
 use mir.Val.{Val, WT, has_ty, vptr}
 use base.Logic.{SProp, ent, sep, id⊢}
 use base.Fml.{GName, ftrue, flft, flent, fat}
@@ -96,6 +96,8 @@ module _ (T : Declared) (L : LL.Laws T) (ps : List Data) (S D : Data) (ν : Sym)
       record {
         lifetimes = 0;
         outlives = [];
+        ty_params = [];
+        givens = 0;
         params = suc (after ps 0);
         locals =
             local τD value_local
@@ -129,7 +131,7 @@ module _ (T : Declared) (L : LL.Laws T) (ps : List Data) (S D : Data) (ν : Sym)
     val_d s h = both T L S s h
 
     module _ (val_is : (s : S.type.Denot) (h : T.D) → D.val (make s h) ≡ val_d s h)
-        (make-is : (s : S.type.Denot) (h : T.D) → Is S.type s (S.val s ∷ []) → Is R h (vals h)
+        (make_is : (s : S.type.Denot) (h : T.D) → Is S.type s (S.val s ∷ []) → Is R h (vals h)
         → Is D.type (make s h) (D.val (make s h) ∷ []))
         {M : Type 1} {𝓤 : Ura M} (𝓛 : Logic 𝓤) (𝓜 : Model 𝓤 𝓛.H) (𝓡 : Running 𝓤 𝓛.H 𝓜)
         (need : T.D → Values 0 tt ps → SProp 𝓤)
@@ -169,7 +171,7 @@ module _ (T : Declared) (L : LL.Laws T) (ps : List Data) (S D : Data) (ν : Sym)
             use0 𝓛 (‵ (has_of tt (slots 0 ps) (kept 0 ps) (stay 0 ps) a (finals 0 tt ps a) (lists 0 tt ps a)))
             (had 0 tt 𝓛 ps a is) $
             owned ! R (Is R) (LL.makes T plainR 𝓛) h _ isR $ fjoin ! $ frame ! $
-            owned ! D.type (Is D.type) (D.makes 𝓛) (make s h') _ (make-is s h' isS isR') $ done !
+            owned ! D.type (Is D.type) (D.makes 𝓛) (make s h') _ (make_is s h' isS isR') $ done !
 
         -- ---- the walk
 
@@ -181,7 +183,7 @@ module _ (T : Declared) (L : LL.Laws T) (ps : List Data) (S D : Data) (ν : Sym)
         typed_d s h' isS isR' =
             subst (λ (u : Val). Holds (has_ty τD u) × WT u) (val_is s h')
             (subst (λ (τ : Ty). Holds (has_ty τ (D.val (make s h'))) × WT (D.val (make s h'))) mir_is
-            (D.typed 𝓛 (make s h') (make-is s h' isS isR')))
+            (D.typed 𝓛 (make s h') (make_is s h' isS isR')))
 
         module _ (C : Calls 𝓤 H) (Λ : Loops 𝓤 H) (fm : FmC 𝓤 H 𝓛.laws C)
             (known : Triple 𝓤 (C g) (Callee 𝓤 need 𝓛)) where
@@ -220,7 +222,7 @@ module _ (T : Declared) (L : LL.Laws T) (ps : List Data) (S D : Data) (ν : Sym)
               (λ v.
               use1 𝓛
               (later (some (λ (s : S.type.Denot).
-              ((‵ (flft (α ∷ []) full_share) ⊛ ‵ ftrue) ⊛ ‵ (S.type.own s (v ∷ [])))
+              ((‵ (flft (α ∷ []) full_share) ⊛ ‵ ftrue) ⊛ ‵ (S.type.own_val s (v ∷ [])))
               ⊛ raw (ensured 𝓛 (con.lent R ps S.type) (con.lent_clauses R ps S.type 𝓤 need Claim)
               (α ∷ [], tt) (x l₂ α δ, a' α) tt s)))) (id⊢ 𝓤 _) $
               await ! tt $ pick ! (λ s. split ! $ move ! (1 ∷ []) $
@@ -232,14 +234,14 @@ module _ (T : Declared) (L : LL.Laws T) (ps : List Data) (S D : Data) (ν : Sym)
               pick ! (λ ws. split ! $ move ! (1 ∷ []) $ heard ! (Claim h (a'' α) s ws.0) (λ e. fsplit ! $
               move ! (2 ∷ []) $ split ! $ move ! (1 ∷ []) $
               peeks ! S.type (Is S.type) (shows 𝓛 S.type) s (v ∷ []) (λ isV.
-              rewrite ! 0 (λ (us : List Val). ‵ (S.type.own s us)) (S.tells s (v ∷ []) isV) refl $
+              rewrite ! 0 (λ (us : List Val). ‵ (S.type.own_val s us)) (S.tells s (v ∷ []) isV) refl $
               peeks ! S.type (Is S.type) (shows 𝓛 S.type) s (S.val s ∷ []) (λ isS. drop ! $
-              -- [the token; the state's last value; …; the lender's part; ps; …]
+              -- [the token; the state's last value and its borrow; …; the lender's part; ps; …]
               land ! (from_at ! (after_env ps bs (rest l₂ l₃ l₄ l₅) 1) (stop !))
               (init ! 9 refl (typed_at S 𝓛 s v isV)) $
               rewrite ! 9 (λ (u : Val). ‵ (fat full_share S.mir l₃ 0 u)) (ap only (S.tells s (v ∷ []) isV)) refl $
               -- the lifetime is ended, and the state comes back at its last value
-              split ! $ lft_end ! tt $ move ! (0 ∷ 4 ∷ 2 ∷ []) $
+              split ! $ lft_end ! tt $ move ! (2 ∷ []) $ fsplit ! $ move ! (1 ∷ []) $ drop ! $ move ! (1 ∷ 4 ∷ 0 ∷ []) $
               use3 𝓛 (later (‵ ((mem R).own_at ws.0 l₂ 0))) (ref_back 𝓛 R (α ∷ []) δ ws.0 l₂ 0) $ await ! tt $
               use1 𝓛 (given (Is R ws.0 (vals ws.0)) (‵ (fat full_share τR l₂ 0 (LL.val T L ws.0))))
               (lies_out T L 𝓛 τR refl ws.0 l₂ 0) $ learn ! (λ isR'.
