@@ -1,20 +1,21 @@
 // Fills a buffer from a reader.
 #![tactic(auto)]
 
-ghost use Rattle.std.specs.Prelude.{◌<◌, IfOk, length, take};
+ghost use Rattle.std.specs.Prelude.{◌≡◌, IfOk, IfSome, length, take};
 ghost use Rattle.std.specs.Io.{ReadsAtMost};
-ghost use Rattle.std.specs.Io.KnownBytes.{Consumes, IsAtEnd};
+ghost use Rattle.std.specs.Io.KnownBytes.{Consumes};
 
 use std::io;
 use std::io::Read;
 
 // Reads until the buffer is full or the input ends, and answers how many bytes stand at its start: those that the reader
-// had first. Where fewer stand there than the buffer holds, the reader is at its end.
+// had first, as many as fit.
 pub fn read_full<R: Read>(from: &mut R, buf: &mut [u8]) -> io::Result<usize>
     ensures bound { ReadsAtMost result buf.new }
-    ensures bytes { IfOk result (λ n.
+    ensures bytes { IfOk result (λ n. IfSome (R.remaining from.old)
+        (λ bytes. take n buf.new ≡ take (length buf.new) bytes)) }
+    ensures rest { IfOk result (λ n.
         Consumes (R.remaining from.old) (R.remaining from.new) (take n buf.new)) }
-    ensures end { IfOk result (λ n. n < length buf.new → IsAtEnd (R.remaining from.new)) }
 {
     let mut done = 0;
     while done < buf.len() {
