@@ -10,7 +10,7 @@ use lib.Dec.{ltb}
 use borrow.Author.Tests.{ltb-true, ltb-false, lt-ltb, le-ltb, lt-leb, le-leb, eq-eqb, ne_eqb}
 use Rattle.lists.proofs.Testing.{tested, equal-or}
 use Rattle.words.specs.Words.{word}
-use Rattle.judging.specs.Blocks.{blocks, block, full_block}
+use Rattle.judging.specs.Blocks.{blocks, full_block}
 use Rattle.judging.specs.Log.{Verdict, accepted, refused, judged, Reads}
 use Rattle.logs.specs.Records.{asked_times, row_at, found}
 use Rattle.logs.specs.declared.Found.TheVariants.{Row, End}

@@ -1,5 +1,2 @@
 pub mod Steps
 pub mod Unique
-mod Walks
-mod Fields
-mod Slices

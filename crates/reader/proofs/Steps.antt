@@ -15,7 +15,7 @@ use Rattle.logs.specs.Records.{asked_times, row_list, found}
 use Rattle.logs.proofs.Rows.{row_list_length, row_list_at, found_row, found_none}
 use Rattle.logs.specs.declared.Found.{Found}
 use Rattle.logs.specs.declared.Found.TheVariants.{End}
-use Rattle.places.specs.Places.{row_number, PlaceOf, first_block}
+use Rattle.places.specs.Places.{row_number, taken_at, PlaceOf, first_block}
 use Rattle.places.proofs.Places.{first_reached, first_stands, taking}
 use Rattle.reader.specs.declared.Reader.{Reader}
 use Rattle.reader.specs.Reading.{reader_on, Standing, nexts, found_rows}
@@ -58,10 +58,11 @@ unfolding nexts found_from
 nexts_from log b r zero low s = refl
 nexts_from log b r (suc m) low s =
     let t = taking log.now b r low s in
+    let to = taken_at log.now b r in
     let n = row_number b r in
     let rows = length (asked_times log.now) in
     tested (ltb n rows)
-    (λ e. rw (t.finds, nexts_from log _ _ m t.past_zero t.reached, t.goes (ltb-true n rows e)))
+    (λ e. rw (t.finds, nexts_from log to.block to.«record» m t.past_zero t.reached, t.goes (ltb-true n rows e)))
     (λ e.
     let h = ltb-false n rows e in
     nexts_none log b r (suc m) low s h ∙ sym (from_none log.now n (suc m) h))
