@@ -1,11 +1,11 @@
 -- A log that is too long is refused by its length, so one byte past the longest is enough to print what is printed for all.
-use Rattle.std.proofs.Common.{rules, arith, ◌≡◌, ℕ, ◌+◌, ◌*◌, ◌/◌, ◌%◌, ◌<◌, ◌≤◌, Bool, true, false, cond, List, length, take, sym, ap, ◌∙◌, take_all, length-take-le}
+use Rattle.std.proofs.Common.{arith, ◌≡◌, ℕ, ◌/◌, ◌%◌, ◌<◌, false, List, length, take, sym, ap, ◌∙◌, take_all, length-take-le}
 use borrow.Author.Tests.{eqb-true, leb-true, leb-false}
 use Rattle.lists.proofs.Testing.{tested, and_true}
 use Rattle.lists.specs.Lists.{within}
 use Rattle.std.specs.Prelude.{eqb, leb, ◌&&◌}
-use Rattle.judging.specs.Log.{Verdict, refused, judged, judged_from}
-use Rattle.judging.specs.Blocks.{blocks, length_fits}
+use Rattle.judging.specs.Log.{refused, judged}
+use Rattle.judging.specs.Blocks.{length_fits}
 use Rattle.report.specs.Report.{printed, report_text}
 use Rattle.text.specs.Text.{refused_line}
 
