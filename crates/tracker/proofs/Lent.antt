@@ -5,7 +5,7 @@ use Prim.Native.Nat.{ℕ}
 use mathlib.Core.Path.{◌≡◌, refl}
 use mathlib.Core.List.{List}
 use seplogic.Ra.Ura.{Ura}
-use mir.Syntax.{Name}
+use mir.Syntax.{Callee as Name}
 use base.Logic.{SProp}
 use prog.Wp.{Closed}
 use prog.Model.{Model}
