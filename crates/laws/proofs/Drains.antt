@@ -8,7 +8,7 @@ use mathlib.Core.Bool.{cond}
 use mathlib.Core.List.{List, [], ◌∷◌}
 use lib.Dec.{ltb, eqb}
 use borrow.Author.Tests.{eqb-true, ltb-false, lt-ltb}
-use Rattle.lists.specs.Lists.{at, total}
+use Rattle.lists.specs.Lists.{total}
 use Rattle.lists.proofs.Testing.{tested, cond-true}
 use Rattle.lists.proofs.Totals.{at_le_total, total_some, total_le}
 use Rattle.rule.specs.State.{State, fresh}

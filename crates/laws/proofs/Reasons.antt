@@ -1,6 +1,6 @@
 -- Demand 1's numbers: a setup, a table and a call are refused exactly when a listed reason holds and none before it
 -- does, and accepted where none holds. In order: lists of reasons, what the tests mean, the lists. Assumes nothing.
-use Prim.Native.Nat.{ℕ, suc, ◌+◌, ◌-◌, ◌≤◌, ◌<◌}
+use Prim.Native.Nat.{ℕ, suc, ◌+◌, ◌≤◌, ◌<◌}
 use native.Mathlib.Omega.{arith}
 use mathlib.Core.Path.{◌≡◌, refl, sym, ◌∙◌}
 use mathlib.Core.Logic.{◌⊎◌, inl, inr, ⊎_elim, ◌↔◌}

@@ -1,5 +1,5 @@
 -- A promise from what a run shows. Assumes nothing.
-use Prim.Native.Nat.{ℕ, ◌-◌}
+use Prim.Native.Nat.{ℕ}
 use mathlib.Core.Path.{◌≡◌, sym, ◌∙◌}
 use Rattle.rule.specs.State.{State}
 use Rattle.rule.specs.Calls.{Call, refusal, effect}

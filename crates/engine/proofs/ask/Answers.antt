@@ -18,7 +18,7 @@ pub walk-ready-requires : goal.walk-ready-requires
 walk-ready-requires c =
     let early : let a = c.args in early_refusal_lem a.p.count a.c.clock a.time a.task a.amount ≡ 0 = sym c.early_refusal-refusal.ensures ∙ c.if-refusal-ne0.false in
     let passed : let a = c.args in Passed a.p.count a.c.clock a.time a.task = early_passed _ _ _ _ _ early in
-    record { kept = c.requires.kept; sound = c.requires.sound; clock_le_time = passed.later; time_le_last_clock = omega (arith, passed.time); }
+    record { kept = c.requires.kept; sound = c.requires.sound; clock_le_time = passed.later; time_le_last_clock = omega (arith, passed.time) }
 
 pub bounds-owed-i : goal.bounds-owed-i
 bounds-owed-i c =
@@ -50,7 +50,7 @@ joined-cursor-requires c =
     let passed : let a = c.args in Passed a.p.count a.c.clock a.time a.task = early_passed _ _ _ _ _ early in
     let known : c.args.task < 32 = omega (arith, passed.task, c.requires.sound.few) in
     let a = c.args in
-    let z = c.if-o-gt0.false in record { kept = c.walk-ready.ensures.kept; queued_bound = asks_room a.time a.task a.amount sound early c.walk-ready.ensures (omega (arith, z)); tasks = kept_tasks c.walk-ready.ensures.kept c.walk-ready.ensures.sound; task_bound = known; }
+    let z = c.if-o-gt0.false in record { kept = c.walk-ready.ensures.kept; queued_bound = asks_room a.time a.task a.amount sound early c.walk-ready.ensures (omega (arith, z)); tasks = kept_tasks c.walk-ready.ensures.kept c.walk-ready.ensures.sound; task_bound = known }
 
 pub returns : goal.returns
 returns c =

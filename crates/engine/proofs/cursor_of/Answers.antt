@@ -4,7 +4,7 @@ use Rattle.engine.proofs.cursor_of.Goals as goal
 
 pub head_of-head-requires : goal.head_of-head-requires
 head_of-head-requires c =
-    record { queue_len = c.requires.tidy.whole; tasks = run_tasks c.args.run c.requires.tidy c.requires.sound; n_bound = c.requires.tidy.fits; }
+    record { queue_len = c.requires.tidy.whole; tasks = run_tasks c.args.run c.requires.tidy c.requires.sound; n_bound = c.requires.tidy.fits }
 
 pub returns : goal.returns
 returns c =

@@ -9,7 +9,7 @@ use Rattle.engine.proofs.drain_on.Goals as goal
 
 pub walk-requires : goal.walk-requires
 walk-requires c =
-    record { kept = c.requires.kept; sound = c.requires.sound; clock_le_time = omega arith; time_le_last_clock = omega (arith, c.total_of-left.ensures, c.requires.owed_bound); }
+    record { kept = c.requires.kept; sound = c.requires.sound; clock_le_time = omega arith; time_le_last_clock = omega (arith, c.total_of-left.ensures, c.requires.owed_bound) }
 
 pub returns : goal.returns
 returns c =

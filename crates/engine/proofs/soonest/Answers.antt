@@ -126,7 +126,7 @@ served-c-requires c =
     Leads c.args.p c.loop-p.c last_clock c.args.queue.now c.loop-p.left waits.given
     O.done c.next_leg-leg.result = waits_leads waits (omega arith) leg in
     let sliced : Room c.args.p c.next_leg-leg.result.cursor.used c.next_leg-leg.result.n = leg_sliced leads in
-    record { n_bound = omega (arith, time); room = sliced; }
+    record { n_bound = omega (arith, time); room = sliced }
 
 pub loop-p-smaller : goal.loop-p-smaller
 loop-p-smaller c =

@@ -1,5 +1,5 @@
 -- Invariant: what is done next from here on is done next from the start on (Waits). Measure: the ticks left.
-use Prim.Native.Nat.{ℕ, ◌-◌}
+use Prim.Native.Nat.{ℕ}
 use mathlib.Core.List.{List}
 use Rattle.lists.specs.Lists.{total}
 use Rattle.laws.specs.Sound.{Sound}

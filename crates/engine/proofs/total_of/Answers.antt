@@ -1,5 +1,5 @@
 -- Invariant: the sum of the entries passed. Measure: the entries left.
-use Prim.Native.Nat.{◌+◌, ◌-◌}
+use Prim.Native.Nat.{◌+◌}
 use native.Mathlib.Omega.{arith}
 use mathlib.Core.Path.{refl, ap, ◌∙◌}
 use lib.Seq.{take_all}

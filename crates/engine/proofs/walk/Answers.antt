@@ -1,5 +1,4 @@
 -- Invariant: the parts stand for the state that comes of the first by ticks (Walks). Measure: the ticks to the time.
-use Prim.Native.Nat.{◌-◌}
 use native.Mathlib.Omega.{arith}
 use Rattle.engine.proofs.Walks.{walking_start, walking_step, walking_less, walking_end}
 use Rattle.engine.proofs.walk.Goals as goal
@@ -16,7 +15,7 @@ pub step-c-requires : goal.step-c-requires
 step-c-requires c =
     let i = c.loop-c.invariant in
     let t = c.loop-c-test.true in
-    record { kept = i.kept; sound = i.sound; limit_nonzero = omega (arith, t); limit_bound = omega (arith, t, c.requires.time_le_last_clock); }
+    record { kept = i.kept; sound = i.sound; limit_nonzero = omega (arith, t); limit_bound = omega (arith, t, c.requires.time_le_last_clock) }
 
 pub loop-c-smaller : goal.loop-c-smaller
 loop-c-smaller c =

@@ -1,9 +1,8 @@
 -- Invariant: the best of the places passed (Heads). Measure: the places left.
-use Prim.Native.Nat.{◌-◌, ◌≤◌}
+use Prim.Native.Nat.{◌≤◌}
 use native.Mathlib.Omega.{arith}
 use mathlib.Core.Path.{refl, sym, ◌∙◌}
 use mathlib.Core.Bool.{true, false}
-use mathlib.Core.Logic.{⊎_elim}
 use lib.ListN.{length}
 use Rattle.lists.specs.Lists.{at}
 use Rattle.line.proofs.Heads.{scanned_step, scanned_stays, scanned_end, before_stays, before_overtakes}
@@ -39,15 +38,15 @@ loop-k-preserved c =
     let h = c.loop-k-test.true in
     let second = before_overtakes prio i.task (at q i.k) i.invariant.ranks refl in
     elim c.if-top-rank.branch [
-      then-top-rank+then-overtakes w ↦
-        scanned_step i.invariant l h (omega (arith, h))
-        (second true w.if-top-rank.true (sym w.if-overtakes.true ∙ w.overtakes.ensures)) w.place-is w.task-is w.top-is
-    | then-top-rank+else-overtakes w ↦
-        scanned_stays i.invariant l h
-        (second false w.if-top-rank.true (sym w.if-overtakes.false ∙ w.overtakes.ensures)) w.place-is w.task-is w.top-is
-    | else-top-rank w ↦
-        scanned_stays i.invariant l h (before_stays prio i.task (at q i.k) i.invariant.ranks refl w.if-top-rank.false)
-        w.place-is w.task-is w.top-is
+      | then-top-rank+then-overtakes w ↦
+          scanned_step i.invariant l h (omega (arith, h))
+          (second true w.if-top-rank.true (sym w.if-overtakes.true ∙ w.overtakes.ensures)) w.place-is w.task-is w.top-is
+      | then-top-rank+else-overtakes w ↦
+          scanned_stays i.invariant l h
+          (second false w.if-top-rank.true (sym w.if-overtakes.false ∙ w.overtakes.ensures)) w.place-is w.task-is w.top-is
+      | else-top-rank w ↦
+          scanned_stays i.invariant l h (before_stays prio i.task (at q i.k) i.invariant.ranks refl w.if-top-rank.false)
+          w.place-is w.task-is w.top-is
     ]
 
 pub returns : goal.returns

@@ -3,7 +3,6 @@ use Prim.Native.Nat.{◌-◌, ◌≤◌}
 use mathlib.Core.Path.{◌≡◌}
 use lib.ListN.{drop}
 use lib.Seq.{paste}
-use Rattle.lists.specs.Lists.{at}
 use Rattle.line.proofs.put_stretch.Given as goal
 
 abbrev pub invariant-loop-k : goal.invariant-loop-k

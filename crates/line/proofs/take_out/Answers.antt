@@ -1,5 +1,5 @@
 -- Invariant: the places passed hold what stood behind them (Rings). Measure: the places left.
-use Prim.Native.Nat.{◌-◌, ◌<◌}
+use Prim.Native.Nat.{◌<◌}
 use native.Mathlib.Omega.{arith}
 use mathlib.Core.Path.{◌≡◌}
 use lib.ListN.{length}

@@ -15,10 +15,8 @@ use Rattle.engine.proofs.Assembly.{apart_sound}
 use Rattle.readings.proofs.Reading.{apart_room}
 use Rattle.readings.proofs.next_done.Goals as goal
 
-
 positive : (n : ℕ) → (n ≡ 0 → ⊥) → 0 < n
 positive n z = omega (arith, z)
-
 
 queue_none : (l : List ℕ) (n : ℕ) → n ≡ 0 → take n l ≡ []
 queue_none l n e = rw e
@@ -30,11 +28,11 @@ returns-then-run-eq0 c =
 
 pub cursor_of-c-requires : goal.cursor_of-c-requires
 cursor_of-c-requires c =
-    record { tidy = c.requires.tidy; sound = made_sound _ c.requires.made; }
+    record { tidy = c.requires.tidy; sound = made_sound _ c.requires.made }
 
 pub soonest-next-requires : goal.soonest-next-requires
 soonest-next-requires c =
-    let some = positive _ c.if-run-eq0.false in record { kept = c.cursor_of-c.ensures.kept; owing = record { given = _; done = _; sound = apart_sound _ _ (made_sound _ c.requires.made) c.cursor_of-c.ensures }; queued_nonzero = rw c.cursor_of-c.ensures.queued some; owed_bound = apart_room _ _ c.cursor_of-c.ensures (made_within _ c.requires.made); }
+    let some = positive _ c.if-run-eq0.false in record { kept = c.cursor_of-c.ensures.kept; owing = record { given = _; done = _; sound = apart_sound _ _ (made_sound _ c.requires.made) c.cursor_of-c.ensures }; queued_nonzero = rw c.cursor_of-c.ensures.queued some; owed_bound = apart_room _ _ c.cursor_of-c.ensures (made_within _ c.requires.made) }
 
 pub returns : goal.returns
 returns c =

@@ -7,4 +7,4 @@ use Rattle.readings.proofs.total_owed.Goals as goal
 pub total_of-requires : goal.total_of-requires
 total_of-requires c =
     let m = c.requires.made in
-    record { owed_len = (made_sound _ m).owed32; owed_bound = omega (arith, made_within _ m); }
+    record { owed_len = (made_sound _ m).owed32; owed_bound = omega (arith, made_within _ m) }

@@ -1,6 +1,6 @@
 -- `rows::put_result` meets its contract. The invariant: the first i entries are written, and no others. Assumes
 -- nothing.
-use Prim.Native.Nat.{◌-◌, ◌<◌}
+use Prim.Native.Nat.{◌<◌}
 use native.Mathlib.Omega.{arith}
 use Rattle.lists.specs.Lists.{at}
 use Rattle.rows.proofs.Putting.{putting_start, putting_step, putting_end}

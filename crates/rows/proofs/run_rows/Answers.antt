@@ -1,6 +1,6 @@
 -- `rows::run_rows` meets its contract. The invariant: `RowsGoing`, what is known of the parts and of every row's
 -- completion after the first i rows. Assumes nothing.
-use Prim.Native.Nat.{◌-◌, ◌<◌}
+use Prim.Native.Nat.{◌<◌}
 use native.Mathlib.Omega.{arith}
 use Rattle.lists.specs.Lists.{at}
 use Rattle.rows.proofs.Running.{going_start, going_known, going_step}
@@ -14,7 +14,7 @@ loop-i-init c =
 pub ask-asked-requires : goal.ask-asked-requires
 ask-asked-requires c =
     let inv = c.loop-i.invariant in
-    record { kept = inv.kept; sound = inv.sound; }
+    record { kept = inv.kept; sound = inv.sound }
 
 pub shape_of-noted-then-asked-ne0 : goal.shape_of-noted-then-asked-ne0
 shape_of-noted-then-asked-ne0 c =
@@ -33,7 +33,7 @@ overflow_cast-task c =
 pub note-requires : goal.note-requires
 note-requires c =
     let known : at c.args.tasks.now c.loop-i.i < 32 = going_known c.loop-i.invariant c.loop-i-test.true c.ask-asked.ensures c.if-asked-ne0.false in
-    record { task_bound = known; task_in_bounds = going_mark c.loop-i.invariant _ c.loop-i-test.true c.requires.times_in_bounds; }
+    record { task_bound = known; task_in_bounds = going_mark c.loop-i.invariant _ c.loop-i-test.true c.requires.times_in_bounds }
 
 pub overflow_add-i : goal.overflow_add-i
 overflow_add-i c =
@@ -47,7 +47,7 @@ loop-i-preserved c =
 pub drain_on-end-requires : goal.drain_on-end-requires
 drain_on-end-requires c =
     let inv = c.loop-i.invariant in
-    record { kept = inv.kept; sound = inv.sound; owed_bound = going_room inv; }
+    record { kept = inv.kept; sound = inv.sound; owed_bound = going_room inv }
 
 pub shape_of-noted : goal.shape_of-noted
 shape_of-noted c =

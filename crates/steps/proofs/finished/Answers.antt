@@ -7,11 +7,11 @@ use Rattle.steps.proofs.finished.Goals as goal
 pub take_out-requires : goal.take_out-requires
 take_out-requires c =
     let K = c.requires.kept in
-    record { place_lt_n = omega (arith, K.inside, c.requires.queued_nonzero); clear = K.tidy; }
+    record { place_lt_n = omega (arith, K.inside, c.requires.queued_nonzero); clear = K.tidy }
 
 pub head_of-head-requires : goal.head_of-head-requires
 head_of-head-requires c =
     let h = c.args.c.head in
     let q = c.args.queue.now in
     let K = c.requires.kept in
-    rw c.take_out.ensures record { queue_len = length_taken_out h q (omega (arith, K.inside, K.tidy.fits, K.tidy.whole, c.requires.queued_nonzero)) ∙ K.tidy.whole; tasks = below_taken_out 32 h q c.requires.tasks; n_bound = omega (arith, K.tidy.fits); }
+    rw c.take_out.ensures record { queue_len = length_taken_out h q (omega (arith, K.inside, K.tidy.fits, K.tidy.whole, c.requires.queued_nonzero)) ∙ K.tidy.whole; tasks = below_taken_out 32 h q c.requires.tasks; n_bound = omega (arith, K.tidy.fits) }

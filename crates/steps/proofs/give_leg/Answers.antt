@@ -20,7 +20,7 @@ given_to-requires c =
       pos = c.requires.limit_nonzero;
       leg = c.next_leg-leg.ensures;
     } in
-    record { task_bound = leg_known leads; n_bound = leg_owes leads; n_bound_2 = leg_gives leads c.requires.limit_bound; }
+    record { task_bound = leg_known leads; n_bound = leg_owes leads; n_bound_2 = leg_gives leads c.requires.limit_bound }
 
 pub finished-requires : goal.finished-requires
 finished-requires c =
@@ -32,7 +32,7 @@ finished-requires c =
       pos = c.requires.limit_nonzero;
       leg = c.next_leg-leg.ensures;
     } in
-    let L = leads in record { n_bound = leg_time L c.requires.limit_bound; kept = leg_kept L; queued_nonzero = leg_some L; tasks = kept_tasks L.kept L.sound; task_bound = leg_known L; }
+    let L = leads in record { n_bound = leg_time L c.requires.limit_bound; kept = leg_kept L; queued_nonzero = leg_some L; tasks = kept_tasks L.kept L.sound; task_bound = leg_known L }
 
 pub returns-then-leg : goal.returns-then-leg
 returns-then-leg c =
@@ -59,7 +59,7 @@ served-requires c =
       pos = c.requires.limit_nonzero;
       leg = c.next_leg-leg.ensures;
     } in
-    record { n_bound = leg_time leads c.requires.limit_bound; room = leg_sliced leads; }
+    record { n_bound = leg_time leads c.requires.limit_bound; room = leg_sliced leads }
 
 pub returns : goal.returns
 returns c =

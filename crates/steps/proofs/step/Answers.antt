@@ -11,7 +11,7 @@ returns-then-c-eq0 c =
 
 pub give_leg-requires : goal.give_leg-requires
 give_leg-requires c =
-    record { kept = c.requires.kept; sound = c.requires.sound; limit_nonzero = c.requires.limit_nonzero; limit_bound = c.requires.limit_bound; queued_nonzero = omega (arith, c.if-c-eq0.false); }
+    record { kept = c.requires.kept; sound = c.requires.sound; limit_nonzero = c.requires.limit_nonzero; limit_bound = c.requires.limit_bound; queued_nonzero = omega (arith, c.if-c-eq0.false) }
 
 pub returns-then-p-eq1 : goal.returns-then-p-eq1
 returns-then-p-eq1 c =
@@ -35,7 +35,7 @@ given_to-requires c =
           ∙ leg_of_slice a.p a.c a.limit a.queue.now a.owed.now
           (sym c.slice_due.ensures ∙ c.if-slice_due.true);
     } in
-    record { task_bound = leg_known leads; n_bound = leg_owes leads; n_bound_2 = leg_gives leads c.requires.limit_bound; }
+    record { task_bound = leg_known leads; n_bound = leg_owes leads; n_bound_2 = leg_gives leads c.requires.limit_bound }
 
 pub served-requires : goal.served-requires
 served-requires c =
@@ -51,7 +51,7 @@ served-requires c =
           ∙ leg_of_slice a.p a.c a.limit a.queue.now a.owed.now
           (sym c.slice_due.ensures ∙ c.if-slice_due.true);
     } in
-    record { n_bound = leg_time leads c.requires.limit_bound; room = leg_sliced leads; }
+    record { n_bound = leg_time leads c.requires.limit_bound; room = leg_sliced leads }
 
 pub returns-then-leg : goal.returns-then-leg
 returns-then-leg c =
@@ -72,7 +72,7 @@ returns-then-leg c =
 
 pub give_leg-requires-2 : goal.give_leg-requires-2
 give_leg-requires-2 c =
-    record { kept = c.requires.kept; sound = c.requires.sound; limit_nonzero = c.requires.limit_nonzero; limit_bound = c.requires.limit_bound; queued_nonzero = omega (arith, c.if-c-eq0.false); }
+    record { kept = c.requires.kept; sound = c.requires.sound; limit_nonzero = c.requires.limit_nonzero; limit_bound = c.requires.limit_bound; queued_nonzero = omega (arith, c.if-c-eq0.false) }
 
 pub returns : goal.returns
 returns c =

@@ -7,7 +7,7 @@ use Rattle.table.proofs.run_noted.Goals as goal
 
 pub run_rows-ran-requires : goal.run_rows-ran-requires
 run_rows-ran-requires c =
-    record { fitted = c.requires.tabled.fitted; times_in_bounds = c.requires.times_in_bounds; }
+    record { fitted = c.requires.tabled.fitted; times_in_bounds = c.requires.times_in_bounds }
 
 pub shape_of-noted-then-ran-ne0 : goal.shape_of-noted-then-ran-ne0
 shape_of-noted-then-ran-ne0 c =
@@ -22,7 +22,7 @@ pub put_result-requires : goal.put_result-requires
 put_result-requires c =
     let q = c.requires.tabled in
     let same = q.fitted.tasks_equal in
-    let taken = c.run_rows-ran.ensures.taken (omega (arith, c.if-ran-ne0.false)) in record { tasks_len_bound = omega (arith, same, q.fitted.few); tasks_in_bounds = omega (arith, same, c.run_rows-ran.ensures.room, c.requires.times_in_bounds); tasks_in_bounds_2 = omega (arith, same, q.fits); below = taken.known; }
+    let taken = c.run_rows-ran.ensures.taken (omega (arith, c.if-ran-ne0.false)) in record { tasks_len_bound = omega (arith, same, q.fitted.few); tasks_in_bounds = omega (arith, same, c.run_rows-ran.ensures.room, c.requires.times_in_bounds); tasks_in_bounds_2 = omega (arith, same, q.fits); below = taken.known }
 
 pub shape_of-noted : goal.shape_of-noted
 shape_of-noted c =

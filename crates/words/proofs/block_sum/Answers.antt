@@ -1,5 +1,5 @@
 -- `words::block_sum` meets its contract: the sum is that of the words passed, and 1, modulo 2 ^ 32. Assumes nothing.
-use Rattle.std.proofs.Common.{◌-◌, arith, rules}
+use Rattle.std.proofs.Common.{arith, rules}
 use Rattle.lists.specs.Lists.{total}
 use Rattle.words.specs.Words.{words}
 use Rattle.words.proofs.Words.{sum_more, sum_check}

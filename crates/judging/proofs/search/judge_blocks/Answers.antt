@@ -121,7 +121,7 @@ returns-then-part-at-ne0 c =
     let h = head_is log n i c.word_at.ensures c.block_sum.ensures c.word_at-in-search.ensures c.count_right.ensures
     c.first_wrong-head.ensures in
     stopped log n i b 33
-    (refusal_byte b.before (part_block log i) (sym h ∙ c.if-head-ne0.false)
+    (refusal_byte b.before (part_block log i) (cc h)
     (unused log i _ _ c.first_unused.ensures c.past_zeros-at.ensures c.bytes.invariant
     ∙ zeros_slice_other 508 (part_at log i) c.bytes.at b.whole c.bytes-test.true c.if-part-at-ne0.true))
     (λ x. omega arith)

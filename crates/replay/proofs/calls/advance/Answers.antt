@@ -26,7 +26,7 @@ pub moved_to-after-requires : goal.moved_to-after-requires
 moved_to-after-requires c =
     let fits : let a = c.args in advance_refusal a.run.clock a.time ≡ 0 = sym c.time_refusal-late.ensures ∙ c.if-late-ne0.false in
     let p = time_passed _ _ fits in
-    record { tidy = c.requires.tidy; sound = made_sound _ c.requires.made; clock_le_time = p.1; time_le_last_clock = omega (arith, p.0); }
+    record { tidy = c.requires.tidy; sound = made_sound _ c.requires.made; clock_le_time = p.1; time_le_last_clock = omega (arith, p.0) }
 
 pub returns : goal.returns
 returns c =

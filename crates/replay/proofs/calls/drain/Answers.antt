@@ -15,7 +15,7 @@ use Rattle.replay.proofs.calls.drain.Goals as goal
 pub total_of-left-requires : goal.total_of-left-requires
 total_of-left-requires c =
     let m = c.requires.made in
-    record { owed_len = (made_sound _ m).owed32; owed_bound = omega (arith, made_within _ m); }
+    record { owed_len = (made_sound _ m).owed32; owed_bound = omega (arith, made_within _ m) }
 
 pub overflow_add-run : goal.overflow_add-run
 overflow_add-run c =
@@ -24,7 +24,7 @@ overflow_add-run c =
 pub moved_to-after-requires : goal.moved_to-after-requires
 moved_to-after-requires c =
     let w = made_within _ c.requires.made in
-    record { tidy = c.requires.tidy; sound = made_sound _ c.requires.made; clock_le_time = omega arith; time_le_last_clock = omega (arith, c.total_of-left.ensures, w); }
+    record { tidy = c.requires.tidy; sound = made_sound _ c.requires.made; clock_le_time = omega arith; time_le_last_clock = omega (arith, c.total_of-left.ensures, w) }
 
 pub returns : goal.returns
 returns c =

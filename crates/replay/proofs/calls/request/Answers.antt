@@ -30,7 +30,7 @@ pub moved_to-ready-requires : goal.moved_to-ready-requires
 moved_to-ready-requires c =
     let early : let a = c.args in early_refusal_lem a.run.setup.count a.run.clock a.time a.task a.amount ≡ 0 = sym c.early_refusal-early.ensures ∙ c.if-early-ne0.false in
     let passed : let a = c.args in Passed a.run.setup.count a.run.clock a.time a.task = early_passed _ _ _ _ _ early in
-    record { tidy = c.requires.tidy; sound = made_sound _ c.requires.made; clock_le_time = passed.later; time_le_last_clock = omega (arith, passed.time); }
+    record { tidy = c.requires.tidy; sound = made_sound _ c.requires.made; clock_le_time = passed.later; time_le_last_clock = omega (arith, passed.time) }
 
 pub bounds-ready-i : goal.bounds-ready-i
 bounds-ready-i c =
@@ -61,7 +61,7 @@ opened_by-after-requires c =
     let passed : let a = c.args in Passed a.run.setup.count a.run.clock a.time a.task = early_passed _ _ _ _ _ early in
     let known : c.args.task < 32 = omega (arith, passed.task, (made_sound _ c.requires.made).few) in
     let room = taken_room (view c.args.run) _ _ _ early _ c.moved_to-ready.ensures (made_sound _ c.requires.made) in
-    record { tidy = c.moved_to-ready.ensures.tidy; queued_bound = room (omega (arith, c.if-o-gt0.false)); task_bound = known; }
+    record { tidy = c.moved_to-ready.ensures.tidy; queued_bound = room (omega (arith, c.if-o-gt0.false)); task_bound = known }
 
 pub returns : goal.returns
 returns c =
