@@ -14,7 +14,7 @@ cat >"$made/bin/rt" <<'RT'
 echo "$*" >>"$CALLS"
 [ "$(basename "$PWD") $*" = 'print run' ] || { echo "rt $* in $PWD" >&2; exit 2; }
 [ ! -e ../one/src/wrong ] || { echo 'one.rt:1: what is wrong' >&2; exit 1; }
-mkdir -p out && printf '#!/bin/sh\ncat\n' >out/print && chmod +x out/print
+[ -x out/print ] || { mkdir -p out && printf '#!/bin/sh\ncat\n' >out/print && chmod +x out/print; }
 out/print
 RT
 chmod +x "$top/tools/run" "$made/bin/rt"
