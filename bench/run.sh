@@ -1,7 +1,7 @@
 #!/usr/bin/env bash
 # Measures the library and the program beside plain ones and writes bench/RESULTS.md.
 # usage: bench/run.sh [tables] [growth] [program] [judging]     all four and the file; else these alone, only printed
-# Measured are target/staticlib/libdesk.a (`rt staticlib desk`) and target/bin/print (`rt check print`).
+# Measured are crates/desk/out/libdesk.a (`rt lib` in crates/desk) and crates/print/out/print (`rt run` in crates/print).
 # WORKLOADS="W1 W2" has only these tables.
 set -euo pipefail
 
@@ -12,9 +12,9 @@ done
 fail() { echo "bench/run.sh: $*" >&2; exit 1; }
 [ "$(uname -m)" = x86_64 ] || fail "the library is for x86-64, and this is $(uname -m)"
 command -v valgrind >/dev/null || fail "valgrind counts the instructions and is not here"
-library=$PWD/target/staticlib/libdesk.a program=target/bin/print
-[ -f "$library" ] || fail "there is no $library: rt staticlib desk"
-[ -x "$program" ] || fail "there is no $program: rt check print"
+library=$PWD/crates/desk/out/libdesk.a program=crates/print/out/print
+[ -f "$library" ] || fail "there is no $library: rt lib in crates/desk"
+[ -x "$program" ] || fail "there is no $program: rt run in crates/print"
 made=$(mktemp -d)
 trap 'rm -rf "$made"' EXIT
 ANDURI_LIB=$library cargo build --offline --quiet --release --manifest-path bench/Cargo.toml
@@ -103,7 +103,7 @@ program() {
     cat <<-END
 	## The whole program
 
-	\`target/bin/print\` beside \`bench/plain.cpp\`, which does the same in plain C++ ($(g++ --version | sed -n '1s/.* //p'), -O2), on full logs of 1,024 rows in 26
+	\`crates/print/out/print\` beside \`bench/plain.cpp\`, which does the same in plain C++ ($(g++ --version | sed -n '1s/.* //p'), -O2), on full logs of 1,024 rows in 26
 	blocks. First all instructions of the process; then those beyond a log without rows, which leaves out the loading of the
 	program and its libraries, where C++ has more to load. Both printed the same bytes.
 

@@ -1,5 +1,5 @@
 /* Follows a run call by call: case A of document 01, with readings on the way.
- * Build: gcc -std=c11 -Iinclude examples/follow_a_run.c target/staticlib/libdesk.a -o follow_a_run */
+ * Build: gcc -std=c11 -Iinclude examples/follow_a_run.c crates/desk/out/libdesk.a -o follow_a_run */
 #include "anduri.h"
 #include <stdio.h>
 

@@ -1,5 +1,5 @@
 /* Keeps one run and moves it in place: run H of document 01, with an advance on the way and readings by pointer.
- * Build: gcc -std=c11 -Iinclude examples/keep_a_run.c target/staticlib/libdesk.a -o keep_a_run */
+ * Build: gcc -std=c11 -Iinclude examples/keep_a_run.c crates/desk/out/libdesk.a -o keep_a_run */
 #include "anduri.h"
 #include <stdio.h>
 

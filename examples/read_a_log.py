@@ -1,5 +1,5 @@
 """Reads a log through the library: judges it, then prints what the program prints.
-Run: gcc -shared -o libanduri.so -Wl,--whole-archive target/staticlib/libdesk.a -Wl,--no-whole-archive
+Run: gcc -shared -o libanduri.so -Wl,--whole-archive crates/desk/out/libdesk.a -Wl,--no-whole-archive
      python3 examples/read_a_log.py libanduri.so examples/case_a.log"""
 import ctypes
 import sys

@@ -1,5 +1,5 @@
 //! Runs a table of rows over columns: two tasks by priority, task 1 above task 0 (case B of document 01).
-//! Build: rustc --edition 2021 examples/run_a_table.rs -L target/staticlib -l static=desk -o run_a_table
+//! Build: rustc --edition 2021 examples/run_a_table.rs -L crates/desk/out -l static=desk -o run_a_table
 
 #[repr(C)]
 struct Outcome {

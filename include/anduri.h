@@ -1,6 +1,6 @@
 /* anduri.h: a proved replay of requests for one shared processor, by priority or round robin.
  *
- * Link with libdesk.a, which `rt staticlib desk` writes to target/staticlib/ (x86-64 Linux, System V calls).
+ * Link with crates/desk/out/libdesk.a, which `rt lib` makes in crates/desk (x86-64 Linux, System V calls).
  *
  * A tick is one millisecond of the controller's counter; times are ticks since the log's start.
  *

@@ -4,7 +4,7 @@
 cd "$(dirname "$0")/.." || exit 2
 words=$(mktemp) || exit 2
 trap 'rm -f "$words"' EXIT
-find crates tests bench examples include -type f \
+find crates tests bench examples include -name out -prune -o -type f \
     \( -name '*.rt' -o -name '*.antt' -o -name '*.rs' -o -name '*.sh' -o -name '*.h' -o -name '*.c' -o -name '*.py' \) \
     -exec cat {} + 2>/dev/null | tr -s ' \t(){}[],;:"' '\n' | sort -u >"$words"
 lost=$(find README.md docs -name '*.md' -exec grep -oh '`[^` ]*`' {} + 2>/dev/null | tr -d '`' | sort -u |
@@ -12,9 +12,10 @@ lost=$(find README.md docs -name '*.md' -exec grep -oh '`[^` ]*`' {} + 2>/dev/nu
         # shellcheck disable=SC2086  # a path may have a *
         ls -d $w >/dev/null 2>&1 && continue
         { [ -e "crates/$w" ] || [ -e "tests/vectors/$w.log" ]; } && continue
-        find crates -name "$w.edit" -o -name "$w.antt" | grep -q . && continue
+        find crates -name out -prune -o \( -name "$w.edit" -o -name "$w.antt" \) -print | grep -q . && continue
         grep -qxF -- "$w" "$words" && continue
-        grep -rqwF --include='*.rt' --include='*.antt' --include='*.rs' --include='*.sh' -- "$w" crates tests && continue
+        grep -rqwF --exclude-dir=out --include='*.rt' --include='*.antt' --include='*.rs' --include='*.sh' -- "$w" crates tests &&
+            continue
         printf '%s\n' "$w"
     done)
 [ -z "$lost" ] && { echo "docs: every name exists"; exit 0; }

@@ -1,11 +1,11 @@
 #!/bin/sh
-# Builds the callers in examples/ over target/staticlib/libdesk.a, runs them, and compares what they write with the stored
+# Builds the callers in examples/ over crates/desk/out/libdesk.a, runs them, and compares what they write with the stored
 # output. The header is compiled as C11 and as C++ with all warnings as errors. The library is for x86-64: on another machine C
 # runs by the toolchain's emulator, and the caller in Rust is only compiled.
 cd "$(dirname "$0")/.." || exit 2
 made=$(mktemp -d) || exit 2
 trap 'rm -rf "$made"' EXIT
-library=target/staticlib/libdesk.a
+library=crates/desk/out/libdesk.a
 fail() { echo "examples: $*"; exit 1; }
 gcc -Wall -Wextra -Werror -std=c11 -Iinclude -fsyntax-only -x c include/anduri.h || fail "the header is not C11"
 g++ -Wall -Wextra -Werror -Iinclude -fsyntax-only -x c++ include/anduri.h || fail "the header is not C++"
@@ -14,7 +14,7 @@ for c in follow_a_run keep_a_run; do
     tools/run "$made/$c" >"$made/$c.out" && cmp "$made/$c.out" examples/$c.out || fail "$c.c"
 done
 if [ "$(uname -m)" = x86_64 ]; then
-    rustc --edition 2021 examples/run_a_table.rs -L target/staticlib -l static=desk -o "$made/rust" || fail "run_a_table.rs"
+    rustc --edition 2021 examples/run_a_table.rs -L crates/desk/out -l static=desk -o "$made/rust" || fail "run_a_table.rs"
     gcc -shared -o "$made/libanduri.so" -Wl,--whole-archive "$library" -Wl,--no-whole-archive || fail "the shared library"
     "$made/rust" >"$made/rust.out" && cmp "$made/rust.out" examples/run_a_table.out || fail "run_a_table.rs"
     python3 examples/read_a_log.py "$made/libanduri.so" examples/case_a.log >"$made/python.out" &&

@@ -6,7 +6,7 @@
 cd "$(dirname "$0")/.." || exit 2
 made=$(mktemp -d) || exit 2
 trap 'rm -rf "$made"' EXIT
-library=target/staticlib/libdesk.a
+library=crates/desk/out/libdesk.a
 fail() { echo "header: $*"; exit 1; }
 tools/cc -Wall -Wextra -Werror -std=c11 -Iinclude tests/fields.c "$library" -o "$made/c" || fail "tests/fields.c as C11"
 tools/cc -Wall -Wextra -Werror -Iinclude -x c++ tests/fields.c -x none "$library" -o "$made/cpp" ||

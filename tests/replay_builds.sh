@@ -1,18 +1,21 @@
 #!/bin/sh
 # ./replay builds the program where it is missing or older than its source, and only there, and shows what rt says where that
-# fails. Here rt, the program and the crates are stand-ins, in a folder and on a log with odd names.
+# fails. What rt makes beside the source, in folders named out, is no source. Here rt, the program and the crates are stand-ins,
+# in a folder and on a log with odd names.
 cd "$(dirname "$0")/.." || exit 2
 made=$(mktemp -d) || exit 2
 trap 'rm -rf "$made"' EXIT
 fail() { echo "replay: $*"; cat "$made/err"; exit 1; }
 top="$made/an odd 'place"
-mkdir -p "$top/tools" "$top/crates/one" "$made/bin" && cp replay "$top/replay" && : >"$top/crates.txt" || exit 2
+mkdir -p "$top/tools" "$top/crates/one/src" "$top/crates/print" "$made/bin" && cp replay "$top/replay" && : >"$top/crates.txt" || exit 2
 printf '#!/bin/sh\nexec "$@"\n' >"$top/tools/run"
 cat >"$made/bin/rt" <<'RT'
 #!/bin/sh
 echo "$*" >>"$CALLS"
-[ ! -e crates/one/wrong ] || { echo 'one.rt:1: what is wrong' >&2; exit 1; }
-mkdir -p target/bin && printf '#!/bin/sh\ncat\n' >target/bin/print && chmod +x target/bin/print
+[ "$(basename "$PWD") $*" = 'print run' ] || { echo "rt $* in $PWD" >&2; exit 2; }
+[ ! -e ../one/src/wrong ] || { echo 'one.rt:1: what is wrong' >&2; exit 1; }
+mkdir -p out && printf '#!/bin/sh\ncat\n' >out/print && chmod +x out/print
+out/print
 RT
 chmod +x "$top/tools/run" "$made/bin/rt"
 CALLS=$made/calls PATH=$made/bin:$PATH
@@ -28,13 +31,16 @@ prints() { # TIMES WHAT
 aged() { touch -t 200001010000 "$1"; }
 prints 1 'a program that is missing'
 prints 1 'a program that is new'
-aged "$top/target/bin/print"
+mkdir "$top/crates/one/out" && : >"$top/crates/one/out/made"
+touch -t 203801010000 "$top/crates/one" "$top/crates/one/out" "$top/crates/one/out/made"
+prints 1 'a program beside what rt made later'
+aged "$top/crates/print/out/print"
 prints 2 'a program that is old'
 prints 2 'a program built anew'
-: >"$top/crates/one/wrong"
-aged "$top/target/bin/print"
+: >"$top/crates/one/src/wrong"
+aged "$top/crates/print/out/print"
 ! "$top/replay" "$log" >"$made/out" 2>"$made/err" || fail 'it prints, and rt failed'
 grep -q 'what is wrong' "$made/err" && [ ! -s "$made/out" ] || fail 'what rt said is not shown'
-rm "$top/crates/one/wrong"
+rm "$top/crates/one/src/wrong"
 prints 4 'a program after a failed build'
 echo "replay: the program is built where it must be"

@@ -10,7 +10,7 @@
  *     answer                                                prints `answered` at once
  *
  * A setup begins a new run, a refused one that of the plain setup in its place, and empty columns. # begins a comment.
- * Build: gcc -std=c11 -Iinclude tests/src/calls.c target/staticlib/libdesk.a -o calls */
+ * Build: gcc -std=c11 -Iinclude tests/src/calls.c crates/desk/out/libdesk.a -o calls */
 #include "anduri.h"
 #include <stdio.h>
 #include <stdlib.h>

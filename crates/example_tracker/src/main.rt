@@ -4,45 +4,44 @@
 
 ghost use Rattle.rule.specs.View.{MadeRun};
 
-use libc::STDOUT_FILENO;
 use readings::Completion;
 use rule::Run;
+use std::io;
 
-fn number(n: u32) {
-    io::write_all(STDOUT_FILENO, b" ");
-    io::print_decimal(STDOUT_FILENO, n as u64);
+fn number(to: &impl Print, n: u32) -> io::Result<()> {
+    print!(to; " {n}")
 }
 
 // The clock and the ticks owed, after the call that is named.
-fn line(call: &[u8], run: Run)
+fn line(to: &impl Print, call: &[u8], run: Run) -> io::Result<()>
     requires { MadeRun run }
 {
-    io::write_all(STDOUT_FILENO, call);
-    io::write_all(STDOUT_FILENO, b": clock");
-    number(readings::clock(run));
-    io::write_all(STDOUT_FILENO, b", owed");
-    number(readings::total_owed(run));
-    io::write_all(STDOUT_FILENO, b"\n");
+    to.write_all(call)?;
+    print!(to; ": clock")?;
+    number(to, readings::clock(run))?;
+    print!(to; ", owed")?;
+    number(to, readings::total_owed(run))?;
+    println!(to; "")
 }
 
-fn completion(run: Run, task: u32)
+fn completion(to: &impl Print, run: Run, task: u32) -> io::Result<()>
     requires { MadeRun run }
 {
-    io::write_all(STDOUT_FILENO, b"task");
-    number(task);
+    print!(to; "task")?;
+    number(to, task)?;
     match readings::completed(run, task) {
         Completion::At(time) => {
-            io::write_all(STDOUT_FILENO, b" done");
-            number(time);
+            print!(to; " done")?;
+            number(to, time)?;
         }
         Completion::Never => {
-            io::write_all(STDOUT_FILENO, b" never done");
+            print!(to; " never done")?;
         }
         Completion::NoSuchTask => {
-            io::write_all(STDOUT_FILENO, b" is not counted");
+            print!(to; " is not counted")?;
         }
     }
-    io::write_all(STDOUT_FILENO, b"\n");
+    println!(to; "")
 }
 
 // The fresh run of 2 tasks, round robin, slice 1.
@@ -77,19 +76,19 @@ fn drain(run: Run) -> Run
     moved.run
 }
 
-fn main() {
+fn main(rt: HostRuntime) -> io::Result<()> {
     let mut run = begun();
     run = request(run, 0, 0, 5);
-    line(b"request 0 0 5", run);
+    line(&rt, b"request 0 0 5", run)?;
     run = request(run, 2, 1, 2);
-    line(b"request 2 1 2", run);
+    line(&rt, b"request 2 1 2", run)?;
     run = advance(run, 3);
-    line(b"advance 3", run);
+    line(&rt, b"advance 3", run)?;
     // Task 0 is still open at 6: refused, and nothing changes.
     run = request(run, 6, 0, 1);
-    line(b"request 6 0 1", run);
+    line(&rt, b"request 6 0 1", run)?;
     run = drain(run);
-    line(b"drain", run);
-    completion(run, 0);
-    completion(run, 1);
+    line(&rt, b"drain", run)?;
+    completion(&rt, run, 0)?;
+    completion(&rt, run, 1)
 }
