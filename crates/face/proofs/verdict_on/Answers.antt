@@ -2,7 +2,7 @@
 use Prim.Native.Nat.{ℕ}
 use native.Mathlib.Omega.{arith}
 use mathlib.Core.Path.{◌≡◌, sym, ap, ◌∙◌}
-use Rattle.judging.specs.Log.{accepted, judged, told}
+use Rattle.judging.specs.Log.{accepted, judged}
 use Rattle.logs.proofs.Rows.{column_most}
 use Rattle.judging.proofs.Unique.{refused_small}
 use Rattle.face.specs.Face.{verdict_face}

@@ -1,6 +1,5 @@
 -- `report::fill` meets its contract. The invariant: the first i rows stand in the columns, and the place is that of
 -- row i. Assumes nothing.
-use Prim.Native.Nat.{◌-◌}
 use Rattle.report.proofs.Filling.{going_start, going_more, going_all}
 use Rattle.report.proofs.fill.Goals as goal
 
@@ -24,4 +23,4 @@ loop-i-preserved c =
 pub returns : goal.returns
 returns c =
     let inv = c.loop-i.invariant in
-    record { value = inv.counted; filled = going_all _ c.requires.reads inv c.loop-i-test.false; }
+    record { value = inv.counted; filled = going_all _ c.requires.reads inv c.loop-i-test.false }

@@ -1,8 +1,7 @@
 -- `report::report` meets its contract: a log that reads is put as its table, a refused one as its line.
 -- Assumes nothing.
 use native.Mathlib.Omega.{arith}
-use mathlib.Core.Path.{sym, ap, ◌∙◌}
-use Rattle.judging.specs.Log.{told}
+use mathlib.Core.Path.{sym}
 use Rattle.cells.proofs.Writing.{wrote_same_upto}
 use Rattle.judging.proofs.Unique.{refused_small}
 use Rattle.report.proofs.Logs.{refused_text}
