@@ -55,6 +55,7 @@ pub fn total_owed(run: Run) -> u32
 }
 
 // A task's entry of a column, refused where the task is not counted.
+#[tactic(auto, using(std::proofs::lemmas::Bool::Decides::nat_tests))]
 fn entry_of(count: u32, column: [u32; 32], task: u32) -> TaskTicks
     requires { count ≤ 32 }
     ensures { ticks_told result ≡ cond (leb count task) (refused 12) (value (at column task)) }

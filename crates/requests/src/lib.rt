@@ -8,6 +8,7 @@ ghost use Rattle.rule.specs.Table.{column_refusal_lem};
 ghost use Rattle.requests.specs.Early.{early_refusal_lem};
 
 // The refusal of a time by 10 or 11, or 0.
+#[tactic(auto, using(std::proofs::lemmas::Bool::Decides::nat_tests), unfolding(rule::specs::Calls::advance_refusal))]
 pub fn time_refusal(clock: u32, time: u32) -> u32
     ensures { result ≡ advance_refusal clock time }
 {
@@ -21,6 +22,7 @@ pub fn time_refusal(clock: u32, time: u32) -> u32
 }
 
 // The refusal of a request by 10 to 13, or 0.
+#[tactic(auto, using(std::proofs::lemmas::Bool::Decides::nat_tests, crate::proofs::Early::time_first, crate::proofs::Early::time_passed), unfolding(crate::specs::Early::early_refusal_lem, lists::specs::Lists::within))]
 pub fn early_refusal(count: u32, clock: u32, time: u32, task: u32, amount: u32) -> u32
     ensures { result ≡ early_refusal_lem count clock time task amount }
 {
