@@ -1,5 +1,5 @@
 -- The contracts that the laws relate, of a state of type R and further parameters ps:
---     fn g(s: R, ps) -> S          by value: it requires need h a, and ensures Said h a r of its result
+--     fn g(s: R, ps) -> S          by_value..: it requires need h a, and ensures Said h a r of its result
 --     fn g(s: &R, ps) -> S         shared..: the same of the state that is lent
 --     fn g(s: &mut R, ps) -> S     lent..: it ensures Claim h a r h' of the state h' at exit
 -- In order: these; what a by-value function asks of its caller, and gives; what one on a lent state asks. Assumes
