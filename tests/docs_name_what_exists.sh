@@ -1,13 +1,14 @@
 #!/bin/sh
 # Each word in back quotes in README.md and docs/ is a path of the repository, a command, a vector or a must-fail edit, or
-# stands as a whole word in a source file. Prints what does not, and fails if anything is printed.
+# stands as a whole word in a source file. Prints what does not, and fails if anything is printed. docs/PORT.md also tells
+# words that were, and is left out.
 cd "$(dirname "$0")/.." || exit 2
 words=$(mktemp) || exit 2
 trap 'rm -f "$words"' EXIT
 find crates tests bench examples include -name out -prune -o -type f \
     \( -name '*.rt' -o -name '*.antt' -o -name '*.rs' -o -name '*.sh' -o -name '*.h' -o -name '*.c' -o -name '*.py' \) \
     -exec cat {} + 2>/dev/null | tr -s ' \t(){}[],;:"' '\n' | sort -u >"$words"
-lost=$(find README.md docs -name '*.md' -exec grep -oh '`[^` ]*`' {} + 2>/dev/null | tr -d '`' | sort -u |
+lost=$(find README.md docs -name '*.md' ! -name PORT.md -exec grep -oh '`[^` ]*`' {} + 2>/dev/null | tr -d '`' | sort -u |
     while IFS= read -r w; do
         # shellcheck disable=SC2086  # a path may have a *
         ls -d $w >/dev/null 2>&1 && continue
