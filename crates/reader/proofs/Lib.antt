@@ -1,2 +1,5 @@
 pub mod Steps
 pub mod Unique
+mod Walks
+mod Fields
+mod Slices
