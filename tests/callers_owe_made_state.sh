@@ -13,9 +13,9 @@ done
 # shellcheck disable=SC2086
 asked=$(awk '
     FNR == 1 { public = 0 }
-    /^(pub )?(extern "C" )?fn / { public = /^pub /; name = $0; sub(/[(<].*/, "", name); sub(/.* /, "", name); if (public) calls++ }
-    /^\{/ { public = 0 }
-    public && /^ *requires/ && !/^    requires ([a-z_]+ )?\{ (MadeRun|Reads|Standing|Stands) [A-Za-z0-9_.«» ]*\}$/ { print FILENAME ": " name ": " $0 }
+    /^(    )?(pub )?(extern "C" )?fn / { public = /^ *pub /; name = $0; sub(/[(<].*/, "", name); sub(/.* /, "", name); if (public) calls++ }
+    /^(    )?\{/ { public = 0 }
+    public && /^ *requires/ && !/^ *requires ([a-z_]+ )?\{ (MadeRun|Reads|Standing|Stands) [A-Za-z0-9_.«» ]*\}$/ { print FILENAME ": " name ": " $0 }
     END { if (calls < 40) print "only " calls " public functions were found" }' $files)
 [ -z "$asked" ] && { echo "callers owe nothing but made state"; exit 0; }
 printf '%s\n' "$asked"

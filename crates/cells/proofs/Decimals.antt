@@ -1,52 +1,52 @@
--- The equations of `digits`: one digit, two, and two behind the others. Assumes nothing.
-use Prim.Native.Nat.{ℕ, zero, suc, ◌+◌, ◌-◌, ◌/◌, ◌%◌, ◌≤◌, ◌<◌}
-use mathlib.Core.Path.{◌≡◌, ◌∙◌}
-use mathlib.Core.List.{[], ◌∷◌, ◌++◌, append_assoc}
+-- A number in decimal is what the library prints, and how many digits it has. Assumes nothing.
+use Prim.Native.Nat.{ℕ, zero, suc, ◌+◌, ◌*◌, ◌/◌, ◌%◌, ◌≤◌, ◌<◌, ◌^◌, max}
+use mathlib.Core.Path.{◌≡◌, ap}
+use mathlib.Core.List.{List, [], ◌∷◌, ◌++◌}
 use native.Mathlib.Omega.{arith}
-use native.Mathlib.Nat.{not-suc-le-zero}
+use lib.ListN.{length, length-append}
 use borrow.Author.Tests.{lt-ltb, le-ltb}
-use Rattle.cells.specs.Decimal.{digits}
-use Rattle.cells.specs.Inner.{pair, Digits}
+use Rattle.std.specs.Fmt.{decimal as printed}
+use Rattle.std.proofs.lemmas.Fmt.{AppendsLastDigit, decimal_by_steps, decimal_from_appends}
+use Rattle.std.proofs.lemmas.Fmt.{decimal_nonempty, length-decimal-le}
+use Rattle.cells.specs.Decimal.{digits, decimal}
 
-pub digits_one : (k n : ℕ) → 0 < k → n < 10 → digits k n ≡ (48 + n) ∷ []
+last_digits : AppendsLastDigit digits
 unfolding digits
-digits_one zero n h l = absurd (not-suc-le-zero h)
-digits_one (suc k) n h l = simp (lt-ltb _ _ l)
+last_digits = record { one = λ k n l. simp (lt-ltb n 10 l); more = λ k n l. simp (le-ltb n 10 l) }
 
--- the last digit stands behind the others
-digits_more : (k n : ℕ) → 10 ≤ n → digits (suc k) n ≡ digits k (n / 10) ++ ((48 + n % 10) ∷ [])
-unfolding digits
-digits_more k n l = simp (le-ltb _ _ l)
+-- of a 32-bit number
+module _ (n : ℕ) (h : n < 2 ^ 32) where
+  printed_few : length (printed n) ≤ 10
+  printed_few = length-decimal-le 10 n (omega arith) (omega arith) (omega arith)
 
-pub digits_two : (k n : ℕ) → Digits k n → 10 ≤ n → 2 ≤ k
-digits_two zero n d h = absurd (not-suc-le-zero d.some)
-digits_two (suc zero) n d h = absurd (not-suc-le-zero {n = 0} (omega (arith, d.few)))
-digits_two (suc (suc k)) n d h = omega arith
+  pub decimal_printed : decimal n ≡ printed n
+  decimal_printed = decimal_from_appends digits last_digits 10 n (omega arith) printed_few
 
-pub digits_pair : (k n : ℕ) → Digits k n → 10 ≤ n → n < 100 → digits k n ≡ pair n
-digits_pair zero n d h l = absurd (not-suc-le-zero d.some)
-digits_pair (suc zero) n d h l = absurd (not-suc-le-zero {n = 0} (omega (arith, d.few)))
-digits_pair (suc (suc k)) n d h l =
-    let one : digits (suc k) (n / 10) ≡ (48 + n / 10) ∷ [] = digits_one (suc k) (n / 10) (omega arith) (omega arith) in
-    digits_more (suc k) n h ∙ rw one
+  pub decimal_few : length (decimal n) ≤ 10
+  decimal_few = omega (arith, ap length decimal_printed, printed_few)
 
--- the last two digits stand behind the others, of which there are two fewer
-pub digits_pairs : (k n : ℕ) → Digits k n → 100 ≤ n → digits k n ≡ digits (k - 2) (n / 100) ++ pair (n % 100)
-digits_pairs zero n d h = absurd (not-suc-le-zero d.some)
-digits_pairs (suc zero) n d h = absurd (not-suc-le-zero {n = 0} (omega (arith, d.few)))
-digits_pairs (suc (suc k)) n d h =
-    let e : suc (suc k) - 2 ≡ k = omega arith in
-    let hundred : n / 10 / 10 ≡ n / 100 = omega arith in
-    let tens : n / 10 % 10 ≡ n % 100 / 10 = omega arith in
-    let ones : n % 10 ≡ n % 100 % 10 = omega arith in
-    digits_more (suc k) n (omega arith)
-    ∙ rw (digits_more k (n / 10) (omega arith), hundred, tens, ones, e)
-    (append_assoc (digits k (n / 100)) ((48 + n % 100 / 10) ∷ []) ((48 + n % 100 % 10) ∷ []))
+ten_some : (k : ℕ) → 0 < 10 ^ k
+ten_some zero = omega arith
+ten_some (suc k) = omega (arith, ten_some k)
 
-pub digits_fewer : (k n : ℕ) → Digits k n → 100 ≤ n → Digits (k - 2) (n / 100)
-digits_fewer zero n d h = absurd (not-suc-le-zero d.some)
-digits_fewer (suc zero) n d h = absurd (not-suc-le-zero {n = 0} (omega (arith, d.few)))
-digits_fewer (suc (suc zero)) n d h = absurd (not-suc-le-zero {n = 0} (omega (arith, d.few)))
-digits_fewer (suc (suc (suc k))) n d h =
-    let e : suc (suc (suc k)) - 2 ≡ suc k = omega arith in
-    rw e (record { some = omega arith; few = omega (arith, d.few) })
+printed_longer : (n : ℕ) → n < 2 ^ 64 → (k : ℕ) → 10 ^ k ≤ n → k < length (printed n)
+printed_longer = decimal_by_steps (λ n ds. (k : ℕ) → 10 ^ k ≤ n → k < length ds) one more
+  where
+    one : (n : ℕ) → n < 10 → (k : ℕ) → 10 ^ k ≤ n → k < 1
+    one n l zero h = omega arith
+    one n l (suc k) h = absurd (omega (arith, ten_some k))
+
+    more : (n : ℕ) (ds : List ℕ) → 10 ≤ n → ((k : ℕ) → 10 ^ k ≤ n / 10 → k < length ds)
+        → (k : ℕ) → 10 ^ k ≤ n → k < length (ds ++ ((48 + n % 10) ∷ []))
+    more n ds l h zero g = omega (arith, length-append ds ((48 + n % 10) ∷ []))
+    more n ds l h (suc k) g = omega (arith, h k (omega arith), length-append ds ((48 + n % 10) ∷ []))
+
+-- k is the logarithm of n, or of 1
+pub printed_length : (n m k : ℕ) → n < 2 ^ 32 → m ≡ max n 1 → 10 ^ k ≤ m → m < 10 * 10 ^ k
+    → length (printed n) ≡ k + 1
+printed_length n m k h e below above =
+    omega (arith, length-decimal-le (suc k) n (omega arith) (omega (arith, e)) (omega arith), longer k below)
+  where
+    longer : (j : ℕ) → 10 ^ j ≤ m → j < length (printed n)
+    longer zero b = decimal_nonempty n (omega arith)
+    longer (suc j) b = printed_longer n (omega arith) (suc j) (omega (arith, e, ten_some j))

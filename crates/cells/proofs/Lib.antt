@@ -1,3 +1,4 @@
 pub mod Writing
+pub mod Pages
 pub mod Decimals
 pub mod Unique

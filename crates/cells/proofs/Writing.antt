@@ -1,27 +1,36 @@
--- Laws of `Wrote`: nothing, a byte, one text after another, a text byte by byte; what it fixes. Assumes nothing.
-use Prim.Native.Nat.{ℕ, ◌+◌, ◌-◌, ◌≤◌, ◌<◌}
+-- Laws of `Wrote`: a text between what stood before it and behind it, no text, one text after another, the same text by
+-- other words; what it fixes. Assumes nothing.
+use Prim.Native.Nat.{ℕ, ◌+◌, ◌-◌, ◌≤◌}
 use mathlib.Core.Path.{◌≡◌, refl, ap, ap₂, sym, ◌∙◌}
-use mathlib.Core.List.{List, [], ◌∷◌, ◌++◌, append_assoc, append-nil}
-use native.Mathlib.Numerals.{add-one}
+use mathlib.Core.List.{List, [], ◌++◌, append_assoc, append-nil}
 use native.Mathlib.Omega.{arith}
-use lib.ListN.{length, take, drop, set, length-append, length-set, take-append-drop}
-use lib.Seq.{take_all, take-suc, take-suc-set, drop-set-lt, drop-drop}
-use Rattle.lists.specs.Lists.{at}
+use lib.ListN.{length, take, drop, length-append, length-drop, take-append-drop}
+use lib.Seq.{length-take-le, take_at, drop_at, drop-drop}
 use Rattle.cells.specs.Writes.{Wrote, WroteUpTo}
+
+-- ---- a text between what stood before it and what stood behind it
+
+pub wrote_between : {a b : List ℕ} {p r : ℕ} (s : List ℕ) → r ≡ p + length s → r ≤ length a
+    → b ≡ take p a ++ (s ++ drop r a) → Wrote a b p s r
+wrote_between {a} {b} {p} {r} s e h is =
+    record {
+      same_length =
+          omega (arith, ap length same, length-append (take p a ++ s) (drop r a), front, length-drop r a);
+      place = e;
+      text = ap (take r) same ∙ take_at (take p a ++ s) (drop r a) r front;
+      rest = ap (drop r) same ∙ drop_at (take p a ++ s) (drop r a) r front;
+    }
+  where
+    same : b ≡ (take p a ++ s) ++ drop r a
+    same = is ∙ sym (append_assoc (take p a) s (drop r a))
+
+    front : length (take p a ++ s) ≡ r
+    front = omega (arith, length-append (take p a) s, length-take-le p a (omega arith))
 
 -- ---- one text after another
 
 pub wrote_nothing : (a : List ℕ) (p : ℕ) → Wrote a a p [] p
 wrote_nothing a p = record { same_length = refl; place = omega arith; text = rw append-nil; rest = refl }
-
-pub wrote_byte : (a : List ℕ) (p b : ℕ) → p < length a → Wrote a (set a p b) p (b ∷ []) (p + 1)
-wrote_byte a p b h =
-    record {
-      same_length = length-set a p b;
-      place = refl;
-      text = rw (add-one, take-suc-set);
-      rest = drop-set-lt (p + 1) a p b (omega arith);
-    }
 
 -- what stays past r stays past q
 later : (a b : List ℕ) (r q : ℕ) → r ≤ q → drop r b ≡ drop r a → drop q b ≡ drop q a
@@ -41,28 +50,14 @@ wrote_then {a} {b} {c} {p} {r} {q} {s} {t} x y =
       rest = y.rest ∙ later a b r q (omega (arith, y.place)) x.rest;
     }
 
--- the same text by another expression
+-- ---- the same text by other words
+
 pub wrote_same : {a b : List ℕ} {p r : ℕ} {s t : List ℕ} → s ≡ t → Wrote a b p s r → Wrote a b p t r
 wrote_same e w = rw (← e) w
 
 pub wrote_same_upto : {most : ℕ} {a b : List ℕ} {p r : ℕ} {s t : List ℕ} → s ≡ t → WroteUpTo most a b p s r
     → WroteUpTo most a b p t r
 wrote_same_upto e w = rw (← e) w
-
--- ---- a text byte by byte
-
-pub wrote_more : {a b : List ℕ} {p : ℕ} (s : List ℕ) (i : ℕ) → i < length s → p + i < length b
-    → Wrote a b p (take i s) (p + i) → Wrote a (set b (p + i) (at s i)) p (take (i + 1) s) (p + (i + 1))
-wrote_more {a} {b} {p} s i h k w =
-    let e : p + i + 1 ≡ p + (i + 1) = omega arith in
-    rw (← e, add-one i, take-suc s i 0) (wrote_then w (wrote_byte b (p + i) (at s i) k))
-
-pub wrote_whole : {a b : List ℕ} {p : ℕ} (s : List ℕ) (i : ℕ) → length s ≤ i → i ≤ length s
-    → Wrote a b p (take i s) (p + i) → Wrote a b p s (p + length s)
-wrote_whole {a} {b} {p} s i h k w =
-    let e : i ≡ length s = omega arith in
-    let f : take i s ≡ s = take_all i s h in
-    rw (← e) (rw f at w)
 
 -- ---- the whole buffer is fixed
 

@@ -1,3 +1,3 @@
 pub mod Decimal
 pub mod Writes
-pub mod Inner
+pub mod Pages

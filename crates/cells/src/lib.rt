@@ -1,74 +1,73 @@
-// What a line is made of, in a buffer that the caller lends: a byte, bytes, a number in decimal. Each function puts
-// its text at `at` and answers the place just past it.
+// What a line is made of, on a page: a buffer that the caller lends, and the place in it where the next byte goes. Each
+// method puts its text there, and moves the place just past it.
+// How much room a page must have differs with what is put, so each asks for its own.
 #![tactic(auto)]
 
-ghost use Rattle.std.specs.Prelude.{◌+◌, ◌≤◌, ◌<◌, [], ◌∷◌, ◌++◌, length};
-ghost use Rattle.cells.specs.Decimal.{digits, decimal};
-ghost use Rattle.cells.specs.Writes.{Wrote, WroteUpTo};
-ghost use Rattle.cells.specs.Inner.{pair, Digits};
+ghost use Rattle.std.specs.Prelude.{◌≡◌, ◌+◌, [], ◌∷◌, ◌++◌, length};
+ghost use Rattle.cells.specs.Decimal.{decimal};
+ghost use Rattle.cells.specs.Pages.{Room, Put};
 
-fn put_byte(out: &mut [u8], at: usize, b: u8) -> usize
-    requires { at < length out.old }
-    ensures { Wrote out.old out.new at (b ∷ []) result }
-{
-    out[at] = b;
-    at + 1
+#[derive(Drop)]
+pub struct Page<'a> {
+    pub out: &'a mut [u8],
+    pub at: usize,
 }
 
-// The two decimal digits of a number below 100.
-fn put_pair(out: &mut [u8], at: usize, n: u32) -> usize
-    requires at_in_bounds { at + 2 ≤ length out.old }
-    requires n_bound { n < 100 }
-    ensures { Wrote out.old out.new at (pair n) result }
-{
-    let p = put_byte(out, at, 48 + (n / 10) as u8);
-    put_byte(out, p, 48 + (n % 10) as u8)
-}
-
-// The decimal digits of n, of which there are at most `left`. By two at a time a number takes half the divisions.
-fn put_decimal(out: &mut [u8], at: usize, n: u32, left: usize) -> usize
-    requires left_in_bounds { at + left ≤ length out.old }
-    requires digits { Digits left n }
-    ensures { WroteUpTo left out.old out.new at (digits left n) result }
-{
-    if n < 10 {
-        return put_byte(out, at, 48 + n as u8);
+impl<'a> Page<'a> {
+    // The start of a buffer.
+    pub fn new(out: &'a mut [u8]) -> Page<'a>
+        ensures same_buffer { result.out.ghost_name ≡ out.entry.ghost_name }
+        ensures same_bytes { result.out.now ≡ out.old }
+        ensures start { result.at ≡ 0 }
+    {
+        Page { out, at: 0 }
     }
-    if n < 100 {
-        return put_pair(out, at, n);
+
+    fn put_byte(&mut self, b: u8)
+        requires { Room 1 self.old }
+        ensures { Put 1 self.old self.new (b ∷ []) }
+    {
+        self.out[self.at] = b;
+        self.at += 1;
     }
-    let p = put_decimal(out, at, n / 100, left - 2);
-    put_pair(out, p, n % 100)
-}
 
-// The bytes of s.
-pub fn put_all(out: &mut [u8], at: usize, s: &[u8]) -> usize
-    requires { at + length s.now ≤ length out.old }
-    ensures { Wrote out.old out.new at s.now result }
-{
-    let mut i = 0;
-    while i < s.len() {
-        out[at + i] = s[i];
-        i += 1;
+    // The decimal digits of n.
+    fn put_decimal(&mut self, n: u32)
+        requires { Room (length (decimal n)) self.old }
+        ensures { Put (length (decimal n)) self.old self.new (decimal n) }
+    {
+        let end = self.at + n.max(1).ilog10() as usize + 1;
+        itoa::write_digits(n as u64, self.out, end);
+        self.at = end;
     }
-    at + s.len()
-}
 
-// A number, and a byte after it.
-pub fn put_cell(out: &mut [u8], at: usize, n: u32, b: u8) -> usize
-    requires { at + 11 ≤ length out.old }
-    ensures { WroteUpTo 11 out.old out.new at (decimal n ++ b ∷ []) result }
-{
-    let p = put_decimal(out, at, n, 10);
-    put_byte(out, p, b)
-}
+    // The bytes of s.
+    #[tactic(auto, using(crate::proofs::Pages::put_copied))]
+    pub fn put_all(&mut self, s: &[u8])
+        requires { Room (length s.now) self.old }
+        ensures { Put (length s.now) self.old self.new s.now }
+    {
+        let end = self.at + s.len();
+        self.out[self.at..end].copy_from_slice(s);
+        self.at = end;
+    }
 
-// Bytes that name a number, the number, and a byte after it.
-pub fn put_named(out: &mut [u8], at: usize, name: &[u8], n: u32, b: u8) -> usize
-    requires { at + length name.now + 11 ≤ length out.old }
-    ensures { WroteUpTo (length name.now + 11) out.old out.new at
-        (name.now ++ (decimal n ++ b ∷ [])) result }
-{
-    let p = put_all(out, at, name);
-    put_cell(out, p, n, b)
+    // A number, and a byte after it.
+    pub fn put_cell(&mut self, n: u32, b: u8)
+        requires { Room 11 self.old }
+        ensures { Put 11 self.old self.new (decimal n ++ b ∷ []) }
+    {
+        self.put_decimal(n);
+        self.put_byte(b);
+    }
+
+    // Bytes that name a number, the number, and a byte after it.
+    pub fn put_named(&mut self, name: &[u8], n: u32, b: u8)
+        requires { Room (length name.now + 11) self.old }
+        ensures { Put (length name.now + 11) self.old self.new
+            (name.now ++ (decimal n ++ b ∷ [])) }
+    {
+        self.put_all(name);
+        self.put_cell(n, b);
+    }
 }

@@ -1,4 +1,4 @@
-// The calls and readings on a run that a caller keeps: each promises of the run before and after what the call by
+// C has each call and reading twice. These are on a run that a caller keeps: each promises of the run before and after what the call by
 // value does, and a refused call leaves the very run.
 ghost use Rattle.std.specs.Prelude.{◌≡◌};
 ghost use Rattle.lists.specs.Lists.{total};
@@ -9,7 +9,7 @@ ghost use Rattle.tracker.specs.Restarted.{Restarted};
 ghost use Rattle.face.specs.Face.{read_face, next_face};
 
 use face::{NextFace, ReadFace};
-use rule::{Run, Setup};
+use rule::{Request, Run, Setup};
 
 // ---- calls
 
@@ -17,9 +17,7 @@ use rule::{Run, Setup};
 pub extern "C" fn anduri_setup_in(run: &mut Run, setup: Setup) -> u32
     ensures { Restarted run.old setup result run.new }
 {
-    let fresh = face::set_up_anew(*run, setup);
-    *run = fresh.run;
-    fresh.refusal
+    face::number(tracker::setup_in(run, setup))
 }
 
 #[unsafe(no_mangle)]
@@ -27,9 +25,8 @@ pub extern "C" fn anduri_request_in(run: &mut Run, time: u32, task: u32, amount:
     requires { MadeRun run.old }
     ensures { Promised run.old (request time task amount) result run.new }
 {
-    let moved = crate::anduri_request(*run, time, task, amount);
-    *run = moved.run;
-    moved.refusal
+    let asked = Request { time, task, amount };
+    face::number(tracker::request_in(run, asked))
 }
 
 #[unsafe(no_mangle)]
@@ -37,9 +34,7 @@ pub extern "C" fn anduri_advance_in(run: &mut Run, time: u32) -> u32
     requires { MadeRun run.old }
     ensures { Promised run.old (advance time) result run.new }
 {
-    let moved = crate::anduri_advance(*run, time);
-    *run = moved.run;
-    moved.refusal
+    face::number(tracker::advance_in(run, time))
 }
 
 #[unsafe(no_mangle)]
@@ -47,9 +42,8 @@ pub extern "C" fn anduri_drain_in(run: &mut Run) -> u32
     requires { MadeRun run.old }
     ensures { Promised run.old drain result run.new }
 {
-    let drained = crate::anduri_drain(*run);
-    *run = drained.run;
-    drained.refusal
+    tracker::drain_in(run);
+    0
 }
 
 // ---- readings
@@ -58,7 +52,7 @@ pub extern "C" fn anduri_drain_in(run: &mut Run) -> u32
 pub extern "C" fn anduri_clock_of(run: &Run) -> u32
     ensures { result ≡ (view run.now).clock }
 {
-    crate::anduri_clock(*run)
+    readings::clock(run)
 }
 
 #[unsafe(no_mangle)]
@@ -66,14 +60,14 @@ pub extern "C" fn anduri_total_owed_of(run: &Run) -> u32
     requires { MadeRun run.now }
     ensures { result ≡ total (view run.now).owed }
 {
-    crate::anduri_total_owed(*run)
+    readings::total_owed(run)
 }
 
 #[unsafe(no_mangle)]
 pub extern "C" fn anduri_idle_of(run: &Run) -> u32
     ensures { result ≡ (view run.now).idle }
 {
-    crate::anduri_idle(*run)
+    readings::idle(run)
 }
 
 #[unsafe(no_mangle)]
@@ -81,7 +75,7 @@ pub extern "C" fn anduri_owed_of(run: &Run, task: u32) -> ReadFace
     requires { MadeRun run.now }
     ensures { result ≡ read_face (owed_of_lem (view run.now) task) }
 {
-    crate::anduri_owed(*run, task)
+    ReadFace::from(readings::owed(run, task))
 }
 
 #[unsafe(no_mangle)]
@@ -89,7 +83,7 @@ pub extern "C" fn anduri_given_of(run: &Run, task: u32) -> ReadFace
     requires { MadeRun run.now }
     ensures { result ≡ read_face (given_of (view run.now) task) }
 {
-    crate::anduri_given(*run, task)
+    ReadFace::from(readings::given(run, task))
 }
 
 #[unsafe(no_mangle)]
@@ -97,7 +91,7 @@ pub extern "C" fn anduri_completed_of(run: &Run, task: u32) -> ReadFace
     requires { MadeRun run.now }
     ensures { result ≡ read_face (completed_of_lem (view run.now) task) }
 {
-    crate::anduri_completed(*run, task)
+    ReadFace::from(readings::completed(run, task))
 }
 
 #[unsafe(no_mangle)]
@@ -105,5 +99,5 @@ pub extern "C" fn anduri_next_of(run: &Run) -> NextFace
     requires { MadeRun run.now }
     ensures { result ≡ next_face (next_done_lem (view run.now)) }
 {
-    crate::anduri_next(*run)
+    NextFace::from(readings::next_done(run))
 }

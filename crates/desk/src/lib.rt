@@ -15,7 +15,9 @@ ghost use Rattle.report.specs.Report.{report_text};
 ghost use Rattle.face.specs.Face.{read_face, next_face, verdict_face, FaceAnswers};
 
 use face::{MoveFace, NextFace, OutcomeFace, ReadFace, VerdictFace};
-use rule::Run;
+use requests::Columns;
+use rule::{Request, Run};
+use setups::Asked;
 
 // Calls and readings on a run that the caller keeps.
 pub mod kept;
@@ -26,11 +28,13 @@ pub mod kept;
 pub extern "C" fn anduri_setup(policy: u32, count: u32, slice: u32, priorities: &[u8]) -> MoveFace
     ensures { Started (asked policy count slice priorities.now) result.refusal result.run }
 {
-    let start = replay::start::setup(policy, count, slice, priorities);
-    let answer = start.answer;
-    let refusal = face::setup_number(answer);
-    let run = start.run;
-    MoveFace { refusal, run }
+    let wanted = Asked {
+        policy,
+        count,
+        slice,
+        priorities,
+    };
+    face::move_of(replay::plain_run(), replay::setup(wanted))
 }
 
 #[unsafe(no_mangle)]
@@ -38,7 +42,8 @@ pub extern "C" fn anduri_request(run: Run, time: u32, task: u32, amount: u32) ->
     requires { MadeRun run }
     ensures { Promised run (request time task amount) result.refusal result.run }
 {
-    face::move_of(replay::calls::request(run, time, task, amount))
+    let asked = Request { time, task, amount };
+    face::move_of(run, replay::request(run, asked))
 }
 
 #[unsafe(no_mangle)]
@@ -46,7 +51,7 @@ pub extern "C" fn anduri_advance(run: Run, time: u32) -> MoveFace
     requires { MadeRun run }
     ensures { Promised run (advance time) result.refusal result.run }
 {
-    face::move_of(replay::calls::advance(run, time))
+    face::move_of(run, replay::advance(run, time))
 }
 
 #[unsafe(no_mangle)]
@@ -54,14 +59,17 @@ pub extern "C" fn anduri_drain(run: Run) -> MoveFace
     requires { MadeRun run }
     ensures { Promised run drain result.refusal result.run }
 {
-    face::move_of(replay::calls::drain(run))
+    MoveFace {
+        refusal: 0,
+        run: replay::drain(run),
+    }
 }
 
 #[unsafe(no_mangle)]
 pub extern "C" fn anduri_clock(run: Run) -> u32
     ensures { result ≡ (view run).clock }
 {
-    readings::clock(run)
+    readings::clock(&run)
 }
 
 #[unsafe(no_mangle)]
@@ -69,14 +77,14 @@ pub extern "C" fn anduri_total_owed(run: Run) -> u32
     requires { MadeRun run }
     ensures { result ≡ total (view run).owed }
 {
-    readings::total_owed(run)
+    readings::total_owed(&run)
 }
 
 #[unsafe(no_mangle)]
 pub extern "C" fn anduri_idle(run: Run) -> u32
     ensures { result ≡ (view run).idle }
 {
-    readings::idle(run)
+    readings::idle(&run)
 }
 
 #[unsafe(no_mangle)]
@@ -84,7 +92,7 @@ pub extern "C" fn anduri_owed(run: Run, task: u32) -> ReadFace
     requires { MadeRun run }
     ensures { result ≡ read_face (owed_of_lem (view run) task) }
 {
-    face::ticks_read(readings::owed(run, task))
+    ReadFace::from(readings::owed(&run, task))
 }
 
 #[unsafe(no_mangle)]
@@ -92,7 +100,7 @@ pub extern "C" fn anduri_given(run: Run, task: u32) -> ReadFace
     requires { MadeRun run }
     ensures { result ≡ read_face (given_of (view run) task) }
 {
-    face::ticks_read(readings::given(run, task))
+    ReadFace::from(readings::given(&run, task))
 }
 
 #[unsafe(no_mangle)]
@@ -100,7 +108,7 @@ pub extern "C" fn anduri_completed(run: Run, task: u32) -> ReadFace
     requires { MadeRun run }
     ensures { result ≡ read_face (completed_of_lem (view run) task) }
 {
-    face::completion_read(readings::completed(run, task))
+    ReadFace::from(readings::completed(&run, task))
 }
 
 #[unsafe(no_mangle)]
@@ -108,7 +116,7 @@ pub extern "C" fn anduri_next(run: Run) -> NextFace
     requires { MadeRun run }
     ensures { result ≡ next_face (next_done_lem (view run)) }
 {
-    face::next_read(readings::next_done(run))
+    NextFace::from(readings::next_done(&run))
 }
 
 // ---- tables and logs
@@ -129,8 +137,18 @@ pub extern "C" fn anduri_table(
         amounts.now (length res.old))
         res.old result res.new }
 {
-    let answer = table::table(policy, count, slice, priorities, times, tasks, amounts, res);
-    face::outcome_of(answer)
+    let wanted = Asked {
+        policy,
+        count,
+        slice,
+        priorities,
+    };
+    let columns = Columns {
+        times,
+        tasks,
+        amounts,
+    };
+    OutcomeFace::from(table::table(wanted, columns, res))
 }
 
 #[unsafe(no_mangle)]

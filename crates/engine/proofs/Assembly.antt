@@ -1,17 +1,19 @@
 -- A run is taken apart, and put together with its queue from place 0 on. Assumes nothing.
-use Prim.Native.Nat.{ℕ}
+use Prim.Native.Nat.{ℕ, zero-le}
 use native.Mathlib.Omega.{arith}
+use native.Mathlib.Nat.{not-suc-le-zero}
 use mathlib.Core.Path.{◌≡◌, refl, sym, ap, ◌∙◌, subst}
 use mathlib.Core.List.{List, ◌++◌}
-use lib.ListN.{take, drop}
+use lib.ListN.{take, drop, replicate}
 use lib.Dec.{ltb}
 use Rattle.lists.proofs.Testing.{tested, cond_same}
-use Rattle.rule.specs.Setups.{is_priority}
-use Rattle.rule.specs.State.{State}
+use Rattle.rule.specs.Setups.{is_priority, setup_refusal_lem}
+use Rattle.rule.specs.State.{State, fresh}
 use Rattle.rule.specs.View.{view, Tidy, Shows}
 use Rattle.rule.specs.declared.Setup.{Setup}
 use Rattle.rule.specs.declared.Run.{Run}
 use Rattle.laws.specs.Sound.{Sound}
+use Rattle.laws.proofs.Made.{fresh_sound}
 use Rattle.line.specs.Places.{queue_at, Tasks, Heads}
 use Rattle.legs.specs.Parts.{with_queue, parts, Kept}
 use Rattle.legs.specs.declared.Cursor.{Cursor}
@@ -54,6 +56,30 @@ module _ (r : Run) (T : Tidy r) where
           (λ e.
           ap (λ (x : ℕ). queue_at r.setup x r.queued r.queue) (H.robin e ∙ cond_same (ltb 0 r.queued) 0)
           ∙ queue_at_zero r.setup r.queued r.queue)
+
+-- ---- a fresh run
+
+abbrev pub begun : Cursor
+begun = record { clock = 0; used = 0; idle = 0; queued = 0; head = 0 }
+
+abbrev pub zeros32 : List ℕ
+zeros32 = replicate 32 0
+
+pub begun_parts : (p : Setup) → parts p begun zeros32 zeros32 zeros32 zeros32 ≡ fresh p
+begun_parts p = ap (λ (q : List ℕ). with_queue p begun q zeros32 zeros32 zeros32) (queue_at_zero p 0 zeros32)
+
+pub begun_kept : (p : Setup) → Kept p begun zeros32
+begun_kept p =
+    record {
+      tidy = record { fits = zero-le; whole = refl; clear = refl };
+      inside = zero-le;
+      serves = λ h. absurd (not-suc-le-zero h);
+    }
+
+pub begun_sound : (p : Setup) → setup_refusal_lem p ≡ 0 → Sound (parts p begun zeros32 zeros32 zeros32 zeros32)
+begun_sound p z = subst Sound (sym (begun_parts p)) (fresh_sound p z)
+
+-- ---- put together
 
 pub apart_sound : (run : Run) (c : Cursor) → Sound (view run) → Apart run c
     → Sound (parts run.setup c run.queue run.owed run.given run.done)

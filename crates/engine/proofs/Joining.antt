@@ -1,7 +1,7 @@
 -- A task that joins the queue. In order: the queue from place 0 on; a task that joins it. Assumes nothing.
 use Prim.Native.Nat.{ℕ, ◌+◌, ◌-◌, ◌≤◌, ◌<◌, zero-le}
 use native.Mathlib.Omega.{arith}
-use mathlib.Core.Path.{◌≡◌, sym, ap, ◌∙◌, subst}
+use mathlib.Core.Path.{◌≡◌, sym, ap, ◌∙◌}
 use mathlib.Core.Bool.{Bool, true, false, cond}
 use mathlib.Core.List.{List, ◌++◌}
 use lib.ListN.{length, set, drop, length-set}
@@ -24,10 +24,6 @@ use Rattle.line.proofs.Queues.{drop_straight, length_straight, straight_priority
 use Rattle.line.proofs.Queues.{below_queue_at, queue_at_joined}
 
 -- ---- the queue from place 0 on
-
-pub straight_queued : (p : Setup) (c : Cursor) {r : Cursor} → r ≡ straight_to p c → r.queued ≡ c.queued
-unfolding straight_to
-straight_queued p c e = ap (λ (x : Cursor). x.queued) e
 
 module _ {p : Setup} {c : Cursor} {q : List ℕ} (K : Kept p c q) {q' : List ℕ}
     (e : q' ≡ queue_at p c.head c.queued q ++ drop c.queued q) where
@@ -59,7 +55,7 @@ module _ {p : Setup} {c : Cursor} {q : List ℕ} (K : Kept p c q) {q' : List ℕ
       (λ f. rw f (sym (chosen_robin p 0 c.queued q' f y (omega (arith, straight_tidy.whole, K.tidy.fits)))))
 
   pub straight_heads : {r : Cursor} (task : ℕ) → r ≡ straight_to p c
-      → Heads p r.head r.queued (set q' r.queued task) r.head
+      → Heads p r.head c.queued (set q' c.queued task) r.head
   unfolding straight_to
   straight_heads task er =
       rw er
@@ -75,39 +71,27 @@ module _ {p : Setup} {c : Cursor} {q : List ℕ} (K : Kept p c q) {q' : List ℕ
   -- ---- a task joins it
 
   pub joined_opens : {r : Cursor} {task amount : ℕ} {o : List ℕ} {head : ℕ} → r ≡ straight_to p c → c.queued < 32
-      → Heads p r.head (r.queued + 1) (set q' r.queued task) head
-      → Opens p c task amount q o
-      (record { clock = c.clock; idle = c.idle; used = c.used; queued = r.queued + 1; head = head })
-      (set q' r.queued task) (set o task amount)
+      → Heads p r.head (c.queued + 1) (set q' c.queued task) head
+      → Opens p c task amount q o (record c { queued = c.queued + 1; head = head })
+      (set q' c.queued task) (set o task amount)
   unfolding straight_to
-  joined_opens {task = task} {amount = amount} {o = o} {head = head} er b = subst Joins (sym er) joins
+  joined_opens {task = task} {amount = amount} {o = o} {head = head} er b H =
+      record {
+        kept =
+            record {
+              tidy = record { fits = omega arith; whole = whole; clear = clear_set c.queued task q' b straight_tidy.clear };
+              inside = heads_inside H;
+              serves = λ y. heads_serves H y (omega (arith, whole));
+            };
+        shown = λ g d.
+            unfold opened in
+            ap (λ (x : List ℕ). with_queue p c x (set o task amount) g d)
+            (queue_at_joined p c.head c.queued q room e task head (omega (arith, K.tidy.whole)) back);
+      }
     where
-      Joins : Cursor → Type 0
-      Joins r =
-          Heads p r.head (r.queued + 1) (set q' r.queued task) head
-          → Opens p c task amount q o
-          (record { clock = c.clock; idle = c.idle; used = c.used; queued = r.queued + 1; head = head })
-          (set q' r.queued task) (set o task amount)
-
       whole : length (set q' c.queued task) ≡ 32
       whole = length-set q' c.queued task ∙ straight_tidy.whole
 
-      tidy : Clear (c.queued + 1) (set q' c.queued task)
-      tidy =
-          record { fits = omega arith; whole = whole; clear = clear_set c.queued task q' b straight_tidy.clear }
-
-      joins : Joins (straight_to p c)
-      joins H =
-          record {
-            kept =
-                record {
-                  tidy = tidy;
-                  inside = heads_inside H;
-                  serves = λ y. heads_serves H y (omega (arith, whole));
-                };
-            shown = λ g d.
-                unfold opened in
-                ap (λ (x : List ℕ). with_queue p c x (set o task amount) g d)
-                (queue_at_joined p c.head c.queued q room e task head (omega (arith, K.tidy.whole))
-                (λ f. H.robin f ∙ rw f (cond_same (ltb 0 (c.queued + 1)) 0)));
-          }
+      back : is_priority p ≡ false → head ≡ 0
+      back f = H.robin f ∙ ap (λ (x : Cursor). cond (ltb x.head (c.queued + 1)) x.head 0) er
+          ∙ rw f (cond_same (ltb 0 (c.queued + 1)) 0)

@@ -1,3 +1,4 @@
+pub mod Totals
 pub mod Walks
 pub mod Joining
 pub mod Requests

@@ -10,7 +10,6 @@ use Rattle.laws.specs.Sound.{Sound}
 use Rattle.laws.specs.Next.{DoneNext}
 use Rattle.legs.specs.Parts.{parts, Kept}
 use Rattle.legs.specs.declared.Cursor.{Cursor}
-use Rattle.engine.specs.declared.Asked.{Asked}
 use Rattle.engine.specs.declared.NextDone.{NextDone}
 
 -- ---- moves of the clock
@@ -31,9 +30,9 @@ after_ask s t k a =
     (cond (eqb (request_refusal s t k a) 14) (moved s t) s)
 
 -- A request's answer, and what it leaves.
-pub record Asks (p : Setup) (t k a : ℕ) (r : Asked) (q : List ℕ) (before after : State) : Type 0 where
-  pub answer : r.refusal ≡ request_refusal before t k a
-  pub left : Reached p r.cursor q (after_ask before t k a) after
+pub record Asks (t k a number : ℕ) (before after : State) : Type 0 where
+  pub answer : number ≡ request_refusal before t k a
+  pub left : after ≡ after_ask before t k a
 
 -- ---- the next completion
 

@@ -1,94 +1,86 @@
-// Run A of document 01 followed call by call: each lends the run to the call in place, by a function that ends in
-// `_through`. A line after each call, and at the end the completions.
+// Run A of document 01 followed call by call, each of which lends the run to the call in place. A line after each call,
+// and at the end the completions.
 #![tactic(auto)]
 
 ghost use Rattle.rule.specs.View.{MadeRun};
 
-use readings::Completion;
-use rule::Run;
+use rule::{Request, Run};
+use setups::Asked;
 use std::io;
 
-fn number(to: &impl Print, n: u32) -> io::Result<()> {
-    print!(to; " {n}")
-}
-
 // The clock and the ticks owed, after the call that is named.
-fn line(to: &impl Print, call: &[u8], run: Run) -> io::Result<()>
-    requires { MadeRun run }
+fn line(to: &impl Print, call: &str, run: &Run) -> io::Result<()>
+    requires { MadeRun run.now }
 {
-    to.write_all(call)?;
-    print!(to; ": clock")?;
-    number(to, readings::clock(run))?;
-    print!(to; ", owed")?;
-    number(to, readings::total_owed(run))?;
-    println!(to; "")
+    let clock = readings::clock(run);
+    let owed = readings::total_owed(run);
+    println!(to; "{call}: clock {clock}, owed {owed}")
 }
 
-fn completion(to: &impl Print, run: Run, task: u32) -> io::Result<()>
-    requires { MadeRun run }
+fn completion(to: &impl Print, run: &Run, task: u32) -> io::Result<()>
+    requires { MadeRun run.now }
 {
-    print!(to; "task")?;
-    number(to, task)?;
     match readings::completed(run, task) {
-        Completion::At(time) => {
-            print!(to; " done")?;
-            number(to, time)?;
-        }
-        Completion::Never => {
-            print!(to; " never done")?;
-        }
-        Completion::NoSuchTask => {
-            print!(to; " is not counted")?;
-        }
+        Ok(Some(time)) => println!(to; "task {task} done {time}"),
+        Ok(None) => println!(to; "task {task} never done"),
+        Err(_) => println!(to; "task {task} is not counted"),
     }
-    println!(to; "")
 }
 
-// The fresh run of 2 tasks, round robin, slice 1.
-fn begun() -> Run
-    ensures { MadeRun result }
+// A request on the run, which stays as it is where the request is refused.
+#[tactic(auto, using(laws::proofs::Unique::made_promised))]
+fn request(run: &mut Run, time: u32, task: u32, amount: u32)
+    requires { MadeRun run.old }
+    ensures { MadeRun run.new }
 {
-    let start = replay::start::setup(2, 2, 1, &[0; 32]);
-    start.run
+    let _ = tracker::request_in(run, Request { time, task, amount });
 }
 
-fn request(run: Run, time: u32, task: u32, amount: u32) -> Run
+#[tactic(auto, using(laws::proofs::Unique::made_promised))]
+fn advance(run: &mut Run, time: u32)
+    requires { MadeRun run.old }
+    ensures { MadeRun run.new }
+{
+    let _ = tracker::advance_in(run, time);
+}
+
+#[tactic(auto, using(laws::proofs::Unique::made_promised))]
+fn drain(run: &mut Run)
+    requires { MadeRun run.old }
+    ensures { MadeRun run.new }
+{
+    tracker::drain_in(run);
+}
+
+fn follow(to: &impl Print, mut run: Run) -> io::Result<()>
     requires { MadeRun run }
-    ensures { MadeRun result }
 {
-    let moved = tracker::calls::request_through(run, time, task, amount);
-    moved.run
-}
-
-fn advance(run: Run, time: u32) -> Run
-    requires { MadeRun run }
-    ensures { MadeRun result }
-{
-    let moved = tracker::calls::advance_through(run, time);
-    moved.run
-}
-
-fn drain(run: Run) -> Run
-    requires { MadeRun run }
-    ensures { MadeRun result }
-{
-    let moved = tracker::calls::drain_through(run);
-    moved.run
-}
-
-fn main(rt: HostRuntime) -> io::Result<()> {
-    let mut run = begun();
-    run = request(run, 0, 0, 5);
-    line(&rt, b"request 0 0 5", run)?;
-    run = request(run, 2, 1, 2);
-    line(&rt, b"request 2 1 2", run)?;
-    run = advance(run, 3);
-    line(&rt, b"advance 3", run)?;
+    request(&mut run, 0, 0, 5);
+    line(to, "request 0 0 5", &run)?;
+    request(&mut run, 2, 1, 2);
+    line(to, "request 2 1 2", &run)?;
+    advance(&mut run, 3);
+    line(to, "advance 3", &run)?;
     // Task 0 is still open at 6: refused, and nothing changes.
-    run = request(run, 6, 0, 1);
-    line(&rt, b"request 6 0 1", run)?;
-    run = drain(run);
-    line(&rt, b"drain", run)?;
-    completion(&rt, run, 0)?;
-    completion(&rt, run, 1)
+    request(&mut run, 6, 0, 1);
+    line(to, "request 6 0 1", &run)?;
+    drain(&mut run);
+    line(to, "drain", &run)?;
+    completion(to, &run, 0)?;
+    completion(to, &run, 1)
+}
+
+// Two tasks, round robin, slice 1.
+#[tactic(auto, using(laws::proofs::Unique::made_started))]
+fn main(rt: HostRuntime) -> io::Result<()> {
+    let wanted = Asked {
+        policy: 2,
+        count: 2,
+        slice: 1,
+        priorities: &[0; 32],
+    };
+    match replay::setup(wanted) {
+        Ok(run) => follow(&rt, run),
+        Err(_) => println!(rt; "the setup is refused"),
+    }
 }

@@ -5,20 +5,12 @@ use Rattle.rule.specs.Table.{Outcome, written}
 use Rattle.judging.specs.Log as log
 use Rattle.judging.specs.Log.{Verdict, accepted}
 use Rattle.logs.specs.Records.{asked_times}
-use Rattle.replay.specs.Answers.{call_number_lem}
-use Rattle.replay.specs.declared.calls.Moved.{Moved}
+use Rattle.table.specs.Numbers.{TableTold, ended, refused_at}
 use Rattle.table.specs.Answers.{answer_of}
-use Rattle.table.specs.declared.TableAnswer.{TableAnswer}
-use Rattle.table.specs.declared.TableAnswer.TheVariants.{Finished, Refused}
-use Rattle.face.specs.declared.MoveFace.{MoveFace}
 use Rattle.face.specs.declared.ReadFace.{ReadFace}
 use Rattle.face.specs.declared.NextFace.{NextFace}
 use Rattle.face.specs.declared.OutcomeFace.{OutcomeFace}
 use Rattle.face.specs.declared.VerdictFace.{VerdictFace}
-
--- a call: its number, 0 where it is accepted, and the run afterwards
-abbrev pub move_face : Moved → MoveFace
-move_face m = record { refusal = call_number_lem m.answer; run = m.run }
 
 -- a reading of a task: its number, 0 where it is accepted, and the value; a value of 0 is also "never"
 abbrev pub read_face : Reading → ReadFace
@@ -32,9 +24,9 @@ next_face nothing = record { task = 0; at = 0 }
 next_face (done k t) = record { task = k; at = t }
 
 -- a table: its number, the row, and the end
-abbrev pub outcome_face : TableAnswer → OutcomeFace
-outcome_face (Refused n i) = record { refusal = n; place = i; end = 0 }
-outcome_face (Finished end) = record { refusal = 0; place = 0; end = end }
+abbrev pub outcome_face : TableTold → OutcomeFace
+outcome_face (refused_at n i) = record { refusal = n; place = i; end = 0 }
+outcome_face (ended end) = record { refusal = 0; place = 0; end = end }
 
 -- a log: its number, the block, and how many records it has
 abbrev pub verdict_face : List ℕ → Verdict → VerdictFace

@@ -1,21 +1,19 @@
 // The answers as the C face tells them: plain numbers, 0 for what does not apply. No function here is exported.
 #![tactic(auto)]
 
-ghost use Rattle.std.specs.Prelude.{◌≡◌};
+ghost use Rattle.std.specs.Prelude.{◌≡◌, MatchResult};
 ghost use Rattle.judging.specs.Log.{judged};
 ghost use Rattle.readings.specs.Answers.{ticks_told, completion_told, next_told};
-ghost use Rattle.replay.specs.Answers.{setup_number_lem, call_number_lem};
-ghost use Rattle.tracker.specs.Restarted.{Restarted};
-ghost use Rattle.face.specs.Face.{move_face, read_face, next_face, outcome_face, verdict_face};
+ghost use Rattle.table.specs.Numbers.{table_told};
+ghost use Rattle.face.specs.Face.{read_face, next_face, outcome_face, verdict_face};
 
-use judging::Judged;
-use readings::{Completion, Next, TaskTicks};
-use replay::calls::{CallAnswer, Moved};
-use replay::start::SetupAnswer;
-use rule::{Run, Setup};
-use table::TableAnswer;
-use tracker::start::restarted;
+use engine::NextDone;
+use logs::Log;
+use readings::NoSuchTask;
+use rule::Run;
+use table::TableRefusal;
 
+// The structs of include/anduri.h: numbers, as C reads them.
 #[repr(C)]
 #[derive(Clone, Copy)]
 pub struct MoveFace {
@@ -55,122 +53,112 @@ pub struct VerdictFace {
 
 // ---- calls
 
-pub fn setup_number(answer: SetupAnswer) -> u32
-    ensures { result ≡ setup_number_lem answer }
+// An answer's number, 0 where it is accepted. It is no `From`, since both types are std's.
+pub fn number<E: Into<u32>>(answer: Result<(), E>) -> u32
+    ensures { MatchResult answer (λ _. result ≡ 0) (λ refusal. E.converts refusal result) }
 {
     match answer {
-        SetupAnswer::Accepted => 0,
-        SetupAnswer::WrongPolicy => 1,
-        SetupAnswer::WrongCount => 2,
-        SetupAnswer::WrongSlice => 3,
-        SetupAnswer::WrongPriorities => 4,
+        Ok(()) => 0,
+        Err(refusal) => refusal.into(),
     }
 }
 
-pub fn call_number(answer: CallAnswer) -> u32
-    ensures { result ≡ call_number_lem answer }
+// An answer's number and run. A refusal holds no run, so the run before is a parameter, and this is no conversion.
+pub fn move_of<E: Into<u32>>(before: Run, answer: Result<Run, E>) -> MoveFace
+    ensures { MatchResult answer (λ run. result ≡ record { refusal = 0; run = run })
+        (λ refusal. (result.run ≡ before) × E.converts refusal result.refusal) }
 {
     match answer {
-        CallAnswer::Accepted => 0,
-        CallAnswer::TimePastLimit => 10,
-        CallAnswer::TimeBeforeClock => 11,
-        CallAnswer::NoSuchTask => 12,
-        CallAnswer::WrongAmount => 13,
-        CallAnswer::StillOpen => 14,
+        Ok(run) => MoveFace { refusal: 0, run },
+        Err(refusal) => MoveFace {
+            refusal: refusal.into(),
+            run: before,
+        },
     }
-}
-
-pub fn move_of(moved: Moved) -> MoveFace
-    ensures { result ≡ move_face moved }
-{
-    let answer = moved.answer;
-    let refusal = call_number(answer);
-    let run = moved.run;
-    MoveFace { refusal, run }
-}
-
-// The fresh run of the setup; a refused setup gives back the run as it was.
-pub fn set_up_anew(run: Run, setup: Setup) -> MoveFace
-    ensures { Restarted run setup result.refusal result.run }
-{
-    let start = restarted(run, setup);
-    let answer = start.answer;
-    let refusal = setup_number(answer);
-    let run = start.run;
-    MoveFace { refusal, run }
 }
 
 // ---- readings
 
-pub fn ticks_read(ticks: TaskTicks) -> ReadFace
-    ensures { result ≡ read_face (ticks_told ticks) }
-{
-    match ticks {
-        TaskTicks::Ticks(value) => ReadFace { refusal: 0, value },
-        TaskTicks::NoSuchTask => ReadFace {
-            refusal: 12,
-            value: 0,
-        },
+impl From<Result<u32, NoSuchTask>> for ReadFace {
+    ghost from_gives = { λ ticks face. face ≡ read_face (ticks_told ticks) };
+
+    fn from(ticks: Result<u32, NoSuchTask>) -> ReadFace {
+        match ticks {
+            Ok(value) => ReadFace { refusal: 0, value },
+            Err(refusal) => ReadFace {
+                refusal: refusal.into(),
+                value: 0,
+            },
+        }
     }
 }
 
-pub fn completion_read(completion: Completion) -> ReadFace
-    ensures { result ≡ read_face (completion_told completion) }
-{
-    match completion {
-        Completion::At(value) => ReadFace { refusal: 0, value },
-        Completion::Never => ReadFace {
-            refusal: 0,
-            value: 0,
-        },
-        Completion::NoSuchTask => ReadFace {
-            refusal: 12,
-            value: 0,
-        },
+impl From<Result<Option<u32>, NoSuchTask>> for ReadFace {
+    ghost from_gives = { λ completion face. face ≡ read_face (completion_told completion) };
+
+    fn from(completion: Result<Option<u32>, NoSuchTask>) -> ReadFace {
+        match completion {
+            Ok(Some(value)) => ReadFace { refusal: 0, value },
+            Ok(None) => ReadFace {
+                refusal: 0,
+                value: 0,
+            },
+            Err(refusal) => ReadFace {
+                refusal: refusal.into(),
+                value: 0,
+            },
+        }
     }
 }
 
-pub fn next_read(next: Next) -> NextFace
-    ensures { result ≡ next_face (next_told next) }
-{
-    match next {
-        Next::Done(task, at) => NextFace { task, at },
-        Next::Nothing => NextFace { task: 0, at: 0 },
+impl From<Option<NextDone>> for NextFace {
+    ghost from_gives = { λ next face. face ≡ next_face (next_told next) };
+
+    fn from(next: Option<NextDone>) -> NextFace {
+        match next {
+            Some(next) => NextFace {
+                task: next.task,
+                at: next.time,
+            },
+            None => NextFace { task: 0, at: 0 },
+        }
     }
 }
 
 // ---- tables and logs
 
-pub fn outcome_of(answer: TableAnswer) -> OutcomeFace
-    ensures { result ≡ outcome_face answer }
-{
-    match answer {
-        TableAnswer::Finished(end) => OutcomeFace {
-            refusal: 0,
-            place: 0,
-            end,
-        },
-        TableAnswer::Refused(refusal, place) => OutcomeFace {
-            refusal,
-            place,
-            end: 0,
-        },
+impl From<Result<u32, TableRefusal>> for OutcomeFace {
+    ghost from_gives = { λ answer face. face ≡ outcome_face (table_told answer) };
+
+    fn from(answer: Result<u32, TableRefusal>) -> OutcomeFace {
+        match answer {
+            Ok(end) => OutcomeFace {
+                refusal: 0,
+                place: 0,
+                end,
+            },
+            Err(refusal) => OutcomeFace {
+                refusal: refusal.number(),
+                place: refusal.place(),
+                end: 0,
+            },
+        }
     }
 }
 
+// What a log is judged to be, and how many records it has.
 pub fn verdict_on(log: &[u8]) -> VerdictFace
     ensures { result ≡ verdict_face log.now (judged log.now) }
 {
-    let verdict = judging::judge(log);
-    match verdict {
-        Judged::Accepted => VerdictFace {
+    match Log::judged(log) {
+        Ok(log) => VerdictFace {
             refusal: 0,
             place: 0,
-            records: logs::record_count(log) as u32,
+            records: log.record_count() as u32,
         },
-        Judged::Refused { number, block } => VerdictFace {
-            refusal: number,
-            place: block as u32,
+        Err(fault) => VerdictFace {
+            refusal: fault.number(),
+            place: fault.block() as u32,
             records: 0,
         },
     }

@@ -17,6 +17,7 @@ pub fn read_full<R: Read>(from: &mut R, buf: &mut [u8]) -> io::Result<usize>
     ensures rest { IfOk result (λ n.
         Consumes (R.remaining from.old) (R.remaining from.new) (take n buf.new)) }
 {
+    // How much a read gives is the reader's to say; and `read_exact` would fail where the input ends early.
     let mut done = 0;
     while done < buf.len() {
         let n = from.read(&mut buf[done..])?;

@@ -1,50 +1,19 @@
--- Laws of what a block has to be. In order: the setup, as its words are read; the number of records, fitting or not;
--- records counted block by block. Assumes nothing.
+-- Laws of what a block has to be. In order: the number of records; the bytes that must be zero; records counted block
+-- by block. Assumes nothing.
 use Prim.Native.Nat.{ℕ, zero, suc, ◌+◌, ◌*◌, ◌-◌, ◌≤◌, ◌<◌}
 use native.Mathlib.Omega.{arith}
 use mathlib.Core.Path.{◌≡◌, refl, ap}
-use mathlib.Core.Bool.{true, false, ◌&&◌, ◌||◌, false≢true}
+use mathlib.Core.Bool.{true, ◌&&◌, ◌||◌, false≢true}
 use mathlib.Core.List.{List}
-use lib.ListN.{take, drop}
 use lib.Dec.{eqb, leb}
-use borrow.Author.Tests.{eq-eqb, ne_eqb, le-leb, leb-true}
+use borrow.Author.Tests.{eq-eqb, ne_eqb, leb-true}
 use Rattle.lists.specs.Lists.{within}
-use Rattle.lists.proofs.Testing.{equal-or, and_true, within_true, within_holds, within_below}
-use Rattle.lists.proofs.Testing.{within_above}
-use Rattle.words.specs.Words.{word}
-use Rattle.rule.specs.Setups.{asked}
-use Rattle.judging.specs.Blocks.{block, setup_in_lem, count, records_to, count_fits}
-
--- ---- the setup
-
-pub setup_read : (b : List ℕ) {p n s : ℕ} → p ≡ word b 4 → n ≡ word b 8 → s ≡ word b 12
-    → asked p n s (take 32 (drop 16 b)) ≡ setup_in_lem b
-unfolding setup_in_lem
-setup_read b ep en es = rw (ep, en, es)
+use Rattle.lists.proofs.Testing.{equal-or, and_true, within_true}
+use Rattle.judging.specs.Blocks.{block, count, records_to, count_fits, first_unused_lem}
 
 -- ---- the number of records
 
 module _ (n i before c : ℕ) where
-  pub count_none : c ≡ 0 → count_fits n i before c ≡ false
-  unfolding count_fits
-  count_none e = rw (within_below 1 41 c (omega arith))
-
-  pub count_above : 41 < c → count_fits n i before c ≡ false
-  unfolding count_fits
-  count_above h = rw (within_above 1 41 c h)
-
-  pub count_inner : 1 ≤ c → c ≤ 41 → i + 1 < n → before + 41 ≤ 1024 → count_fits n i before c ≡ eqb c 41
-  unfolding count_fits
-  count_inner low high inner few =
-      rw (within_holds 1 41 c low high, ne_eqb (i + 1) n (λ e. omega arith))
-      (equal-or c 41
-      (λ e. rw (eq-eqb c 41 e, le-leb (before + c) 1024 (omega arith)))
-      (λ e. rw (ne_eqb c 41 e)))
-
-  pub count_last : 1 ≤ c → c ≤ 41 → i + 1 ≡ n → count_fits n i before c ≡ leb (before + c) 1024
-  unfolding count_fits
-  count_last low high last = rw (within_holds 1 41 c low high, eq-eqb (i + 1) n last)
-
   -- what a number of records that fits says
   pub record Counted : Type 0 where
     pub some : 1 ≤ c
@@ -66,6 +35,17 @@ module _ (n i before c : ℕ) where
             (λ g. absurd (false≢true (rw (ne_eqb (i + 1) n (λ x. omega arith), ne_eqb c 41 g) at q.1)));
         most = leb-true (before + c) 1024 p.1;
       }
+
+-- ---- the bytes that must be zero
+
+pub unused_from : (n i before : ℕ) (b : List ℕ) → (eqb i 0 || count_fits n i before (count b)) ≡ true
+    → first_unused_lem i b ≤ 508
+unused_from n i before b e =
+    equal-or i 0
+    (λ z. rw (eq-eqb i 0 z) (omega arith))
+    (λ z.
+    let c = count_fits_lem n i before (count b) (rw (ne_eqb i 0 z) at e) in
+    rw (ne_eqb i 0 z) (omega (arith, c.few)))
 
 -- ---- records counted block by block
 

@@ -1,22 +1,35 @@
--- Laws of judging. In order: the refusal of a block, rule by rule; the blocks that are left to judge. Assumes
--- nothing.
+-- Laws of judging. In order: a verdict on a block; the refusal of a block, rule by rule; the blocks that are left to
+-- judge. Assumes nothing.
 use Prim.Native.Nat.{ℕ, suc, ◌+◌, ◌*◌, ◌-◌, ◌≤◌, ◌<◌}
 use native.Mathlib.Omega.{arith}
-use mathlib.Core.Path.{◌≡◌, refl, ◌∙◌}
+use mathlib.Core.Path.{◌≡◌, refl, sym, ◌∙◌}
 use mathlib.Core.Bool.{Bool, true, false, cond, not, ◌&&◌, ◌||◌}
-use mathlib.Core.List.{List, [], ◌∷◌}
+use mathlib.Core.List.{List}
 use lib.ListN.{length, take, drop, length-drop}
 use lib.Seq.{slice, length-take-le}
 use lib.Dec.{eqb}
 use borrow.Author.Tests.{eq-eqb, ne_eqb}
 use Rattle.lists.specs.Lists.{zeros}
-use Rattle.lists.proofs.Testing.{passed_not}
-use Rattle.words.specs.Words.{word, check}
-use Rattle.rule.specs.Refusal.{refuse, first}
+use Rattle.lists.proofs.Testing.{equal-or, passed_not}
 use Rattle.rule.specs.Setups.{setup_refusal_lem}
 use Rattle.judging.specs.Blocks.{blocks, block, check_fits, place_fits, setup_in_lem, count, records_to, count_fits}
 use Rattle.judging.specs.Blocks.{first_unused_lem, unused_zero, layout_fits}
-use Rattle.judging.specs.Log.{accepted, refused, block_refusal_lem, judged_from}
+use Rattle.judging.proofs.Accepted.{refused-not}
+use Rattle.judging.specs.Log.{accepted, refused, at_block, head_refusal, block_refusal_lem, judged_from}
+
+-- ---- a verdict on a block
+
+module _ (i k : ℕ) where
+  pub at_block_none : accepted ≡ at_block i k → k ≡ 0
+  at_block_none v =
+      equal-or k 0 (λ z. z)
+      (λ z. let e : accepted ≡ refused k i = rw (ne_eqb k 0 z) at v in refused-not (sym e))
+
+  pub at_block_some : {m j : ℕ} → refused m j ≡ at_block i k → k ≡ 0 → ⊥
+  at_block_some v z = refused-not (rw z at v)
+
+  pub at_block_is : (k ≡ 0 → ⊥) → at_block i k ≡ refused k i
+  at_block_is z = rw (ne_eqb k 0 z)
 
 -- ---- the refusal of block i, by its bytes b
 
@@ -33,15 +46,6 @@ length_part log i h =
 pub record Before (log : List ℕ) (n i : ℕ) : Type 0 where
   pub size : blocks log ≡ n
   pub full : records_to log (i - 1) ≡ 41 * (i - 1)
-
--- the first of 31, 32 and 33, by the check, the place and the number of records of the bytes b of block i
-abbrev pub head_refusal : ℕ → ℕ → List ℕ → ℕ
-head_refusal n i b =
-    first
-    (refuse 31 (not (eqb (word b 508) (check b)))
-    ∷ refuse 32 (not (eqb (word b 0) i))
-    ∷ refuse 33 (not (eqb i 0 || count_fits n i (41 * (i - 1)) (count b)))
-    ∷ [])
 
 -- three tests in their order, then s
 abbrev in_order : Bool → Bool → Bool → ℕ → ℕ
@@ -61,10 +65,10 @@ head_passes a b c z s h =
 
 module _ {log : List ℕ} {n i : ℕ} {b : List ℕ} (p : Before log n i) (e : b ≡ block log i) where
   abbrev sum : Bool
-  sum = eqb (word b 508) (check b)
+  sum = check_fits b
 
   abbrev place : Bool
-  place = eqb (word b 0) i
+  place = place_fits i b
 
   abbrev counted : Bool
   counted = eqb i 0 || count_fits n i (41 * (i - 1)) (count b)
@@ -76,7 +80,7 @@ module _ {log : List ℕ} {n i : ℕ} {b : List ℕ} (p : Before log n i) (e : b
   setup = cond (eqb i 0) (setup_refusal_lem (setup_in_lem b)) 0
 
   refusal_parts : block_refusal_lem log i ≡ in_order sum place (counted && unused) setup
-  unfolding block_refusal_lem check_fits place_fits layout_fits unused_zero
+  unfolding block_refusal_lem layout_fits unused_zero
   refusal_parts = rw (← e, p.size, p.full)
 
   pub refusal_head : (head_refusal n i b ≡ 0 → ⊥) → block_refusal_lem log i ≡ head_refusal n i b

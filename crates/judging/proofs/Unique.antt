@@ -2,8 +2,9 @@
 -- when; accepted exactly when; places; the answers of the code. Assumes nothing.
 use Prim.Native.Nat.{ℕ, zero, suc, ◌+◌, ◌-◌, ◌≤◌, ◌<◌}
 use native.Mathlib.Omega.{arith}
-use mathlib.Core.Path.{◌≡◌, refl, sym, subst, ◌∙◌}
-use mathlib.Core.Bool.{true, false}
+use mathlib.Core.Path.{◌≡◌, refl, sym, ap, subst, ◌∙◌}
+use mathlib.Core.Bool.{true, false, cond}
+use Rattle.std.specs.Prelude.{Result, Ok, Err}
 use mathlib.Core.List.{List}
 use lib.Dec.{eqb}
 use borrow.Author.Tests.{eqb-true, eqb-false, ne_eqb}
@@ -11,8 +12,11 @@ use Rattle.lists.proofs.Testing.{tested, equal-or, cond-true, cond-false}
 use Rattle.rule.specs.View.{Determined}
 use Rattle.judging.specs.Blocks.{blocks, length_fits, block, check_fits, place_fits, layout_fits}
 use Rattle.judging.specs.Log.{Verdict, refused, told, block_refusal_lem, judged_from, judged, Reads}
-use Rattle.judging.specs.declared.Judged.{Judged}
-use Rattle.judging.specs.declared.Judged.TheVariants.{Accepted, Refused}
+use Rattle.judging.specs.Numbers.{log_number, log_block}
+use Rattle.judging.specs.declared.LogRefusal.{LogRefusal}
+use Rattle.judging.specs.declared.LogRefusal.TheVariants.{WrongLength, WrongCheck, WrongPlace, WrongLayout}
+use Rattle.judging.specs.declared.LogRefusal.TheVariants.{WrongSetup, NoSuchBlock}
+use Rattle.setups.specs.declared.SetupRefusal.TheVariants.{WrongPolicy, WrongCount, WrongSlice, WrongPriorities}
 use Rattle.judging.proofs.Judging.{judged_good, judged_refused, judged_end}
 use Rattle.judging.proofs.Accepted.{refused-not, fits_sized}
 
@@ -110,11 +114,41 @@ refused_small log n i e = fault_small (refused_fault log n i e)
 
 -- ---- the answers of the code
 
-told_equal : (x y : Judged) → told x ≡ told y → x ≡ y
-told_equal Accepted Accepted e = refl
-told_equal Accepted (Refused n i) e = refused-not (sym e)
-told_equal (Refused n i) Accepted e = refused-not e
-told_equal (Refused n i) (Refused m j) e = cc
+-- the refusal with a number and a block
+refusal_of : ℕ → ℕ → LogRefusal
+refusal_of n i =
+    cond (eqb n 30) WrongLength
+    (cond (eqb n 31) (WrongCheck i)
+    (cond (eqb n 32) (WrongPlace i)
+    (cond (eqb n 33) (WrongLayout i)
+    (cond (eqb n 34) NoSuchBlock
+    (WrongSetup
+    (cond (eqb n 1) WrongPolicy (cond (eqb n 2) WrongCount (cond (eqb n 3) WrongSlice WrongPriorities))))))))
 
-pub told_determined : (v : Verdict) → Determined (λ (r : Judged). told r ≡ v)
+refusal_back : (e : LogRefusal) → refusal_of (log_number e) (log_block e) ≡ e
+unfolding refusal_of
+refusal_back WrongLength = refl
+refusal_back (WrongCheck i) = refl
+refusal_back (WrongPlace i) = refl
+refusal_back (WrongLayout i) = refl
+refusal_back (WrongSetup WrongPolicy) = refl
+refusal_back (WrongSetup WrongCount) = refl
+refusal_back (WrongSetup WrongSlice) = refl
+refusal_back (WrongSetup WrongPriorities) = refl
+refusal_back NoSuchBlock = refl
+
+pub refusal_equal : (d f : LogRefusal) → refused (log_number d) (log_block d) ≡ refused (log_number f) (log_block f)
+    → d ≡ f
+refusal_equal d f e =
+    let en : log_number d ≡ log_number f = cc in
+    let ei : log_block d ≡ log_block f = cc in
+    sym (refusal_back d) ∙ rw (en, ei) (refusal_back f)
+
+told_equal : (x y : Result (Unit {0}) LogRefusal) → told x ≡ told y → x ≡ y
+told_equal (Ok x) (Ok y) e = refl
+told_equal (Ok x) (Err f) e = refused-not (sym e)
+told_equal (Err d) (Ok y) e = refused-not e
+told_equal (Err d) (Err f) e = ap Err (refusal_equal d f e)
+
+pub told_determined : (v : Verdict) → Determined (λ (r : Result (Unit {0}) LogRefusal). told r ≡ v)
 told_determined v x y p q = told_equal x y (p ∙ sym q)

@@ -1,5 +1,6 @@
 -- Document 01, "The desk's log form": the length of a log, and what each of its blocks has to be. Assumes nothing.
-use Rattle.std.specs.Prelude.{ℕ, zero, suc, ◌+◌, ◌*◌, ◌-◌, ◌/◌, ◌%◌, Bool, cond, ◌&&◌, ◌||◌, List, length, take, drop, eqb, leb}
+use Rattle.std.specs.Prelude.{ℕ, zero, suc, ◌+◌, ◌*◌, ◌-◌, ◌/◌, ◌%◌, Bool, cond, ◌&&◌, ◌||◌, List, length, take, drop}
+use Rattle.std.specs.Prelude.{eqb, leb}
 use Rattle.std.proofs.Math.Seq.{slice}
 use Rattle.lists.specs.Lists.{within, zeros}
 use Rattle.words.specs.Words.{word, check}

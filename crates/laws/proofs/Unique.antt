@@ -1,16 +1,19 @@
 -- No two different outcomes satisfy a promise, and what the promises of single calls give for sequences of calls on
 -- runs. In order: the shape of a promise, runs and their views, setups and calls, made runs, sequences. Assumes
 -- nothing.
-use Prim.Native.Nat.{ℕ, ◌-◌}
+use Prim.Native.Nat.{ℕ, zero, suc, ◌-◌, ◌<◌}
 use native.Mathlib.Omega.{arith}
 use mathlib.Core.Path.{◌≡◌, refl, sym, ap, ap₂, ◌∙◌, subst}
 use mathlib.Core.Logic.{◌↔◌}
 use mathlib.Core.List.{List, ◌∷◌, ◌++◌}
 use lib.Dec.{eqb}
+use Rattle.std.specs.Prelude.{Result, Ok, Err}
+use Rattle.std.specs.Result.{result_unwrap_or}
 use lib.ListN.{take, length, replicate, length-take, take-append-drop}
 use borrow.Author.Tests.{eqb-true, eq-eqb}
 use Rattle.lists.specs.Lists.{zeros}
 use Rattle.lists.proofs.Testing.{tested, cond-true}
+use Rattle.rule.specs.Refusal.{number_by}
 use Rattle.rule.specs.Setups.{slice_fits_lem, bytes_fit_lem, setup_refusal_lem, plain, or_plain}
 use Rattle.rule.specs.State.{State, fresh}
 use Rattle.rule.specs.Calls.{Call, refusals, calls, Made}
@@ -31,6 +34,29 @@ use Rattle.laws.proofs.Backlog.{demand3}
 pub by_inverse : {A B : Type 0} (f : A → B) (g : B → A) → ((x : A) → g (f x) ≡ x) → (b : B)
     → Determined (λ (x : A). f x ≡ b)
 by_inverse f g h b x y p q = sym (h x) ∙ ap g (p ∙ sym q) ∙ h y
+
+-- An answer that is a value or a refusal is fixed by its number and by the value, where each refusal has a number of its
+-- own and none has 0.
+module _ {A E : Type 0} (number : E → ℕ) (back : ℕ → E) (again : (e : E) → back (number e) ≡ e)
+    (some : (e : E) → 0 < number e) where
+  answer_by : ℕ → A → Result A E
+  answer_by zero x = Ok x
+  answer_by (suc n) x = Err (back (suc n))
+
+  refused_by : (n : ℕ) (x : A) → 0 < n → answer_by n x ≡ Err (back n)
+  unfolding answer_by
+  refused_by zero x h = absurd (omega arith)
+  refused_by (suc n) x h = refl
+
+  answer_again : (d : A) (r : Result A E) → answer_by (number_by number r) (result_unwrap_or r d) ≡ r
+  unfolding answer_by
+  answer_again d (Ok x) = refl
+  answer_again d (Err e) = refused_by (number e) d (some e) ∙ ap (λ (f : E). Err f) (again e)
+
+  pub answer_one : (d : A) (x y : Result A E) → number_by number x ≡ number_by number y
+      → result_unwrap_or x d ≡ result_unwrap_or y d → x ≡ y
+  answer_one d x y n v =
+      sym (answer_again d x) ∙ (λ i. answer_by (n i) (v i)) ∙ answer_again d y
 
 -- ---- runs and their views
 

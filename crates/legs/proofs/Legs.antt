@@ -55,8 +55,8 @@ at_once_whole : (p : Setup) (owed limit : ℕ) → is_priority p ≡ false → p
 unfolding at_once
 at_once_whole p owed limit e h = rw e (omega arith)
 
--- so a limit of a slice leads to the same leg
-pub leg_of_slice : (p : Setup) (c : Cursor) (limit : ℕ) (q o : List ℕ) → slice_due_lem p c limit ≡ true
+-- so the leg is the same
+leg_of_slice : (p : Setup) (c : Cursor) (limit : ℕ) (q o : List ℕ) → slice_due_lem p c limit ≡ true
     → leg_of p c p.slice q o ≡ leg_of p c limit q o
 unfolding leg_of
 leg_of_slice p c limit q o e =
@@ -88,9 +88,27 @@ module _ (n : ℕ) (q o : List ℕ) (l : n ≤ length q) (owing : (k : ℕ) → 
       ∙ at_replicate (32 - n) (k - n) in
       omega arith)
 
-pub ready_owes : {p : Setup} {c : Cursor} {q o : List ℕ} → Ready p c q o → (h : ℕ) → h < c.queued → 0 < at o (at q h)
+ready_owes : {p : Setup} {c : Cursor} {q o : List ℕ} → Ready p c q o → (h : ℕ) → h < c.queued → 0 < at o (at q h)
 ready_owes {p} {c} {q} {o} R =
     place_owed c.queued q o (omega (arith, R.kept.tidy.fits, R.kept.tidy.whole)) R.owing
+
+-- ---- after the turn
+
+module _ {p : Setup} {c : Cursor} {q o : List ℕ} (R : Ready p c q o) {r : Cursor} (e : r ≡ turned_to p c) where
+  some : r.head < c.queued
+  some = rw e (turned_some R.kept R.some)
+
+  pub turned_inside : r.head < 32
+  turned_inside = omega (arith, some, R.kept.tidy.fits)
+
+  pub turned_owes : 0 < at o (at q r.head)
+  turned_owes = ready_owes R r.head some
+
+  pub turned_task : at q r.head < 32
+  turned_task = omega (arith, at_inside o (at q r.head) turned_owes, R.owed32)
+
+  pub turned_room : Room p r.used 1
+  turned_room = unfold turned_to in rw e (overdue_room p c.used R.sliced)
 
 -- ---- the parts of a sound state
 
@@ -118,6 +136,15 @@ pub record Leads (p : Setup) (c : Cursor) (limit : ℕ) (q o g d : List ℕ) (l 
   pub some : 0 < c.queued
   pub pos : 0 < limit
   pub leg : l ≡ leg_of p c limit q o
+
+module _ {p : Setup} {c : Cursor} {limit : ℕ} {q o g d : List ℕ} {l : Leg} (K : Kept p c q)
+    (S : Sound (parts p c q o g d)) (some : 0 < c.queued) (pos : 0 < limit) where
+  pub leads : l ≡ leg_of p c limit q o → Leads p c limit q o g d l
+  leads e = record { kept = K; sound = S; some = some; pos = pos; leg = e }
+
+  -- where a turn comes, a limit of a slice leads to the same leg
+  pub leads_slice : slice_due_lem p c limit ≡ true → l ≡ leg_of p c p.slice q o → Leads p c limit q o g d l
+  leads_slice due e = leads (e ∙ leg_of_slice p c limit q o due)
 
 module _ {p : Setup} {c : Cursor} {limit : ℕ} {q o g d : List ℕ} {l : Leg} (L : Leads p c limit q o g d l) where
   turned : l.cursor ≡ turned_to p c
@@ -147,16 +174,17 @@ module _ {p : Setup} {c : Cursor} {limit : ℕ} {q o g d : List ℕ} {l : Leg} (
   pub leg_some : 0 < l.cursor.queued
   leg_some = omega (arith, leg_queued, L.some)
 
+  is_ready : Ready p c q o
+  is_ready = ready L.kept L.sound L.some
+
   open_task : 0 < at o l.task
-  open_task =
-      rw (leg_task, turned)
-      (ready_owes (ready L.kept L.sound L.some) (turned_to p c).head (turned_some L.kept L.some))
+  open_task = rw leg_task (turned_owes is_ready turned)
 
   pub leg_known : l.task < 32
-  leg_known = omega (arith, at_inside o l.task open_task, L.sound.owed32)
+  leg_known = rw leg_task (turned_task is_ready turned)
 
   room : Room p l.cursor.used 1
-  room = unfold turned_to in rw turned (overdue_room p c.used L.sound.sliced)
+  room = turned_room is_ready turned
 
   pub leg_asked : l.n ≤ limit
   leg_asked = rw leg_once (at_once_asked p l.cursor.used l.owed limit)

@@ -8,6 +8,7 @@ use Rattle.rule.specs.View.{Clear}
 use Rattle.rule.specs.declared.Setup.{Setup}
 use Rattle.line.specs.Places.{queue_at}
 use Rattle.legs.specs.declared.Cursor.{Cursor}
+use Rattle.legs.specs.declared.Arrays.{Arrays}
 
 -- ---- the state of the parts
 
@@ -28,6 +29,10 @@ with_queue p c queue o g d =
 -- with the queue that stands in the array q
 abbrev pub parts : Setup → Cursor → List ℕ → List ℕ → List ℕ → List ℕ → State
 parts p c q o g d = with_queue p c (queue_at p c.head c.queued q) o g d
+
+-- the state that a cursor and the arrays make
+abbrev pub state_of : Setup → Cursor → Arrays → State
+state_of p c a = parts p c a.queue a.owed a.given a.done
 
 -- What the parts keep besides: the array holds 0 behind the queue, and the task that is served stands at the head.
 pub record Kept (p : Setup) (c : Cursor) (q : List ℕ) : Type 0 where

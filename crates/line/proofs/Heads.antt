@@ -5,12 +5,12 @@ use native.Mathlib.Omega.{arith}
 use native.Mathlib.Numerals.{add-one}
 use native.Mathlib.Nat.{not-suc-le-zero, le_of_suc-le-suc}
 use mathlib.Core.Path.{◌≡◌, refl, sym, ap, ◌∙◌}
-use mathlib.Core.Bool.{Bool, true, false, cond}
+use mathlib.Core.Bool.{Bool, true, false, cond, ◌&&◌, ◌||◌}
 use mathlib.Core.List.{List, [], ◌∷◌, ◌++◌}
 use lib.ListN.{length, set, take, drop, drop_of_length-le}
 use lib.Seq.{length-take-le, take-suc, take-set-le, slice-cons}
-use lib.Dec.{ltb}
-use borrow.Author.Tests.{lt-ltb, le-ltb, ltb-true}
+use lib.Dec.{eqb, ltb}
+use borrow.Author.Tests.{lt-ltb, le-ltb, ltb-true, ltb-false, eq-eqb, ne_eqb}
 use Rattle.lists.specs.Lists.{at}
 use Rattle.lists.proofs.Testing.{tested, cond-true, cond-false}
 use Rattle.lists.proofs.Totals.{at_set_other}
@@ -39,13 +39,21 @@ chosen_robin p h n q e b l = ap (chosen p) (queue_at_robin p h n q e ∙ ring_he
 
 -- the task a, with priority x, and another, with priority y
 module _ (prio : List ℕ) (a b : ℕ) {x y : ℕ} (ex : x ≡ at prio a) (ey : y ≡ at prio b) where
-  pub before_stays : y < x → before prio a b ≡ a
+  pub before_overtakes : (r : Bool) → r ≡ ltb x y || (eqb x y && ltb b a) → before prio a b ≡ cond r b a
   unfolding before
-  before_stays h = rw (← ex, ← ey, le-ltb x y (omega arith), lt-ltb y x h)
+  before_overtakes r e =
+      rw (e, ← ex, ← ey)
+      (tested (ltb x y)
+      (λ f. rw f)
+      (λ f.
+      let h = ltb-false x y f in
+      rw f
+      (tested (ltb y x)
+      (λ g. let i = ltb-true y x g in rw (g, ne_eqb x y (omega arith)))
+      (λ g. let i = ltb-false y x g in rw (g, eq-eqb x y (omega arith))))))
 
-  pub before_overtakes : (r : Bool) → x ≤ y → r ≡ cond (ltb x y) true (ltb b a) → before prio a b ≡ cond r b a
-  unfolding before
-  before_overtakes r h e = rw (e, ← ex, ← ey, le-ltb y x h) (tested (ltb x y) (λ f. rw f) (λ f. rw f))
+  pub before_stays : y < x → before prio a b ≡ a
+  before_stays h = before_overtakes false (rw (le-ltb x y (omega arith), ne_eqb x y (omega arith)))
 
 -- ---- the scan
 
@@ -186,3 +194,22 @@ best_more {prio} {q} {n = n} B l i e =
         sym (best_append prio x (take n q) (at q n))
         ∙ ap (best prio x) (sym (take-suc q n 0 (le_of_suc-le-suc l)))
         ∙ ap (λ (k : ℕ). best prio x (drop 1 (take k (x ∷ q)))) (sym (add-one (suc n)))
+
+-- b is whether it goes before the head
+module _ {p : Setup} {n place : ℕ} {q : List ℕ} (one : is_priority p ≡ true) (whole : length q ≡ 32) (few : n < 32)
+    (H : Heads p place n q place) where
+  first : (r : ℕ) → r ≤ n → before p.priority (at q place) (at q n) ≡ at q r → Heads p place (n + 1) q r
+  first r i e =
+      record {
+        robin = λ f. absurd (cc);
+        priority = λ f. best_more (H.priority f) (omega (arith, whole, few)) i e;
+      }
+
+  pub heads_joined : (b : Bool)
+      → b ≡ ltb (at p.priority (at q place)) (at p.priority (at q n))
+      || (eqb (at p.priority (at q place)) (at p.priority (at q n)) && ltb (at q n) (at q place))
+      → Heads p place (n + 1) q (cond b n place)
+  heads_joined true e = first n (omega arith) (before_overtakes p.priority (at q place) (at q n) refl refl true e)
+  heads_joined false e =
+      first place (omega (arith, heads_inside H))
+      (before_overtakes p.priority (at q place) (at q n) refl refl false e)

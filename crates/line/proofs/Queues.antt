@@ -81,6 +81,11 @@ queue_at_taken_out p h n q r b l once e =
 
 -- ---- the queue from place 0 on, and a task that joins it
 
+-- under priority it is there
+pub straight_same : (p : Setup) (h n : ℕ) (q : List ℕ) → is_priority p ≡ true → q ≡ queue_at p h n q ++ drop n q
+straight_same p h n q e =
+    sym (ap (λ (x : List ℕ). x ++ drop n q) (queue_at_priority p h n q e) ∙ take-append-drop n q)
+
 module _ (p : Setup) (h n : ℕ) (q : List ℕ) {q' : List ℕ} (l : n ≤ length q)
     (e : q' ≡ queue_at p h n q ++ drop n q) where
   pub take_straight : take n q' ≡ queue_at p h n q
@@ -100,8 +105,7 @@ module _ (p : Setup) (h n : ℕ) (q : List ℕ) {q' : List ℕ} (l : n ≤ lengt
       )
 
   pub straight_priority : is_priority p ≡ true → q' ≡ q
-  straight_priority f =
-      e ∙ ap (λ (x : List ℕ). x ++ drop n q) (queue_at_priority p h n q f) ∙ take-append-drop n q
+  straight_priority f = e ∙ sym (straight_same p h n q f)
 
   pub queue_at_joined : (k r : ℕ) → n < length q → (is_priority p ≡ false → r ≡ 0)
       → queue_at p r (n + 1) (set q' n k) ≡ queue_at p h n q ++ k ∷ []

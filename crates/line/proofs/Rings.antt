@@ -3,23 +3,25 @@
 use Prim.Native.Nat.{ℕ, zero, suc, ◌+◌, ◌-◌, ◌≤◌, ◌<◌}
 use native.Mathlib.Omega.{arith}
 use native.Mathlib.Numerals.{add-one}
-use mathlib.Core.Path.{◌≡◌, sym, ap, ◌∙◌}
+use mathlib.Core.Path.{◌≡◌, sym, ap, ap₂, ◌∙◌}
 use mathlib.Core.Bool.{cond}
 use mathlib.Core.List.{List, [], ◌∷◌, ◌++◌, append_assoc, append-nil}
-use lib.ListN.{length, take, drop, set, replicate, length-append, length-drop, take-append-drop}
+use lib.ListN.{length, take, drop, set, length-append, length-drop, take-append-drop}
 use lib.Seq.{take-suc, take-length, take-take, take_at, take-append-le, take-append-add, length-take-le}
-use lib.Seq.{drop-cons, drop-length, drop-drop, drop_at, drop-append-le, drop-append-add, get_or-drop}
+use lib.Seq.{drop-cons, drop-length, drop-drop, drop_at, drop-append-le, drop-append-add}
 use lib.Seq.{set_at}
-use lib.Seq.{slice-cons, length-slice, paste, paste-zero, length-paste, take-paste, drop-paste}
+use lib.Seq.{slice-cons, length-slice}
 use lib.Dec.{eqb, ltb}
+use borrow.Rule.Slice.PartMut.{mid_of, put_mid}
 use borrow.Author.Tests.{eqb-true, ltb-false}
 use Rattle.lists.specs.Lists.{at, Below, times}
 use Rattle.lists.proofs.Testing.{tested, cond-true, cond-false}
 use Rattle.lists.proofs.Counting.{times_append}
-use Rattle.lists.proofs.Places.{drop_take, paste_next, length_zero, below_append, below_take, below_drop}
+use Rattle.lists.proofs.Places.{drop_take, length_zero, below_append, below_take, below_drop, clear_behind}
 use Rattle.rule.specs.Tick.{head_back}
+use Rattle.rule.specs.View.{Clear}
 use Rattle.line.specs.Places.{ring, taken_out}
-use Rattle.lists.proofs.Places.{clear_behind}
+use Rattle.std.specs.List.{copy_within}
 
 -- ---- the ring
 
@@ -68,31 +70,6 @@ head_back_ring h n q b l =
     ∙ ap (λ (k : ℕ). ring k n q) (sym (cond-true 0 (h + 1) e)))
     (λ e. ap (λ (k : ℕ). ring k n q) (sym (add-one h) ∙ sym (cond-false 0 (h + 1) e)))
 
--- ---- the ring put straight
-
-pub straight_zero : (n : ℕ) (q : List ℕ) → q ≡ ring 0 n q ++ drop n q
-straight_zero n q = sym (ap (λ (x : List ℕ). x ++ drop n q) (ring_zero n q) ∙ take-append-drop n q)
-
--- by two copies
-pub paste_straight : (h n : ℕ) (q : List ℕ) → h ≤ n → n ≤ length q
-    → paste (paste q 0 (drop h q) (n - h)) (n - h) (drop 0 q) h ≡ ring h n q ++ drop n q
-paste_straight h n q b l =
-    let m = n - h in
-    let part = paste q 0 (drop h q) m in
-    let z : 0 + m ≡ m = omega arith in
-    let e : m + h ≡ n = omega arith in
-    let f : take m part ≡ take m (drop h q) =
-    ap (λ (k : ℕ). take k part) (sym z)
-    ∙ take-paste q 0 (drop h q) m (omega arith) (simp length-drop (omega arith)) in
-    let g : drop m part ≡ drop m q =
-    ap (λ (k : ℕ). drop k part) (sym z)
-    ∙ drop-paste q 0 (drop h q) m (omega arith) (simp length-drop (omega arith))
-    ∙ ap (λ (k : ℕ). drop k q) z in
-    ap (λ (x : List ℕ). take m part ++ take h q ++ x)
-    (sym (drop-drop h m part) ∙ ap (drop h) g ∙ drop-drop h m q ∙ ap (λ (k : ℕ). drop k q) e)
-    ∙ ap (λ (x : List ℕ). x ++ take h q ++ drop n q) (f ∙ sym (drop_take h n q b))
-    ∙ ap (λ (x : List ℕ). drop h (take n q) ++ x ++ drop n q) (sym (take-take h n q b))
-
 -- ---- a task taken out
 
 pub below_taken_out : (m h : ℕ) (q : List ℕ) → Below m q → Below m (taken_out h q)
@@ -114,74 +91,17 @@ length_taken_out h q b =
       length-drop (h + 1) q,
     )
 
--- those behind place h have moved up as far as to place k
-abbrev pub MovedUp : ℕ → List ℕ → ℕ → List ℕ → Type 0
-MovedUp h q k x = x ≡ paste q h (drop (h + 1) q) (k - h)
-
-module _ {h : ℕ} (b : h < 32) (q : List ℕ) (w : length q ≡ 32) where
-  pub moved_up_start : MovedUp h q h q
-  moved_up_start =
-      let z : 0 ≡ h - h = omega arith in
-      paste-zero q h (drop (h + 1) q) ∙ ap (λ (j : ℕ). paste q h (drop (h + 1) q) j) z
-
-  pub moved_up_length : {k : ℕ} {x : List ℕ} → h ≤ k → k < 32 → MovedUp h q k x → length x ≡ 32
-  moved_up_length {k} a l e =
-      ap length e ∙ length-paste q h (drop (h + 1) q) (k - h) (omega arith) (simp length-drop (omega arith)) ∙ w
-
-  pub moved_up_step : {k : ℕ} {x : List ℕ} → h ≤ k → k < 31 → MovedUp h q k x
-      → MovedUp h q (k + 1) (set x k (at x (k + 1)))
-  moved_up_step {k} {x} a l e =
-      let j = k - h in
-      let t = drop (h + 1) q in
-      let f : h + j ≡ k = omega arith in
-      let g : h + 1 + j ≡ k + 1 = omega arith in
-      let i : j + 1 ≡ k + 1 - h = omega arith in
-      let d : drop (h + j) x ≡ drop (h + j) q =
-      ap (drop (h + j)) e ∙ drop-paste q h t j (omega arith) (simp length-drop (omega arith)) in
-      let v : at x (k + 1) ≡ at q (h + 1 + j) =
-      sym (ap (λ (y : ℕ). at x (y + 1)) f)
-      ∙ sym (get_or-drop (h + j) x 1 0)
-      ∙ ap (λ (y : List ℕ). at y 1) d
-      ∙ get_or-drop (h + j) q 1 0
-      ∙ ap (at q) (omega arith) in
-      ap (λ (y : ℕ). set x k y) v
-      ∙ ap (λ (y : ℕ). set x y (at q (h + 1 + j))) (sym f)
-      ∙ ap (λ (y : List ℕ). set y (h + j) (at q (h + 1 + j))) e
-      ∙ paste_next q q h (h + 1) j (omega arith) (omega arith)
-      ∙ ap (λ (y : ℕ). paste q h t y) i
-
-  -- the last place is cleared, as those behind the n tasks are
-  pub moved_up_end : {n k : ℕ} {x : List ℕ} → h < n → n ≤ 32 → drop n q ≡ replicate (32 - n) 0 → k ≡ n - 1
-      → MovedUp h q k x → set x (n - 1) 0 ≡ taken_out h q
-  moved_up_end {n} {k} a l z i e =
-      let m = n - 1 - h in
-      let t = drop (h + 1) q in
-      let p = take h q ++ take m t in
-      let i' : k - h ≡ m = omega arith in
-      let j : h + m ≡ n - 1 = omega arith in
-      let s : suc (n - 1) ≡ n = omega arith in
-      let u : h + 1 + m ≡ n = omega arith in
-      let lp : length p ≡ n - 1 =
-      omega (
-        arith,
-        length-append (take h q) (take m t),
-        length-take-le h q (omega arith),
-        length-take-le m t (simp length-drop (omega arith)),
-      ) in
-      let d : drop (n - 1) q ≡ at q (n - 1) ∷ drop n q =
-      drop-cons q (n - 1) 0 (omega arith) ∙ ap (λ (y : ℕ). at q (n - 1) ∷ drop y q) s in
-      ap (λ (y : List ℕ). set y (n - 1) 0)
-      (e
-      ∙ ap (λ (y : ℕ). paste q h t y) i'
-      ∙ ap (λ (y : ℕ). p ++ drop y q) j
-      ∙ ap (λ (y : List ℕ). p ++ y) d)
-      ∙ set_at p (at q (n - 1)) (drop n q) 0 (n - 1) lp
-      ∙ ap (λ (y : List ℕ). p ++ y) (clear_behind q n z)
-      ∙ append_assoc (take h q) (take m t) (drop n q ++ 0 ∷ [])
-      ∙ ap (λ (y : List ℕ). take h q ++ y)
-      (sym (append_assoc (take m t) (drop n q) (0 ∷ []))
-      ∙ ap (λ (y : List ℕ). (take m t ++ y) ++ 0 ∷ []) (sym (drop-drop m (h + 1) q ∙ ap (λ (y : ℕ). drop y q) u))
-      ∙ ap (λ (y : List ℕ). y ++ 0 ∷ []) (take-append-drop m t))
+-- every entry one place down, over the first
+lowered : (x : ℕ) (t : List ℕ) → copy_within (x ∷ t) 1 (length (x ∷ t)) 0 ≡ t ++ at (x ∷ t) (length t) ∷ []
+lowered x t =
+    let k : length (x ∷ t) - 1 ≡ length t = omega arith in
+    let z : 0 + length t ≡ length t = omega arith in
+    ap (λ (i : ℕ). take i t ++ drop (0 + i) (x ∷ t)) k
+    ∙ ap₂ (λ (u v : List ℕ). u ++ v)
+    (take-length t)
+    (ap (λ (i : ℕ). drop i (x ∷ t)) z
+    ∙ drop-cons (x ∷ t) (length t) 0 (omega arith)
+    ∙ ap (λ (u : List ℕ). at (x ∷ t) (length t) ∷ u) (drop-length t))
 
 module _ (h n : ℕ) (q : List ℕ) (b : h < n) (l : n ≤ length q) where
   head_length : length (take h q) ≡ h
@@ -210,6 +130,30 @@ module _ (h n : ℕ) (q : List ℕ) (b : h < n) (l : n ≤ length q) where
       ∙ drop-append-add (take h q) (drop (h + 1) q ++ 0 ∷ []) m
       ∙ drop-append-le m (drop (h + 1) q) (0 ∷ []) (simp length-drop (omega arith))
       ∙ ap (λ (x : List ℕ). x ++ 0 ∷ []) (drop-drop m (h + 1) q ∙ ap (λ (k : ℕ). drop k q) e)
+
+  ahead_length : length (take h q ++ drop (suc h) (take n q)) ≡ n - 1
+  ahead_length = omega (arith, length-append (take h q) (drop (suc h) (take n q)), head_length, length-slice (suc h) n q l)
+
+  -- Those behind place h are lowered, and the last place is cleared, as those behind the queue are.
+  pub lowered_taken_out : Clear n q → (m : List ℕ)
+      → m ≡ copy_within (mid_of h (n - h) q) 1 (length (mid_of h (n - h) q)) 0
+      → set (put_mid h (n - h) q m) (n - 1) 0 ≡ taken_out h q
+  lowered_taken_out c m e =
+      let a = take h q in
+      let t = drop (suc h) (take n q) in
+      let y = at (at q h ∷ t) (length t) in
+      let part : mid_of h (n - h) q ≡ at q h ∷ t = sym (drop_take h n q (omega arith)) ∙ slice-cons h n q 0 b l in
+      let whole : h + (n - h) ≡ n = omega arith in
+      let moved : put_mid h (n - h) q m ≡ (a ++ t) ++ y ∷ drop n q =
+      ap₂ (λ (x z : List ℕ). a ++ (x ++ z))
+      (e ∙ ap (λ (x : List ℕ). copy_within x 1 (length x) 0) part ∙ lowered (at q h) t)
+      (drop-drop (n - h) h q ∙ ap (λ (k : ℕ). drop k q) whole)
+      ∙ ap (λ (x : List ℕ). a ++ x) (append_assoc t (y ∷ []) (drop n q))
+      ∙ sym (append_assoc a t (y ∷ drop n q)) in
+      ap (λ (x : List ℕ). set x (n - 1) 0) moved
+      ∙ set_at (a ++ t) y (drop n q) 0 (n - 1) ahead_length
+      ∙ ap₂ (λ (x z : List ℕ). x ++ z) (sym take_taken_out) (clear_behind q n c.clear ∙ sym drop_taken_out)
+      ∙ take-append-drop (n - 1) (taken_out h q)
 
   -- the ring goes on at the place that was left, or at 0 where that was the last
   pub ring_taken_out : ring (cond (ltb h (n - 1)) h 0) (n - 1) (taken_out h q)

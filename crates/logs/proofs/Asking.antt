@@ -2,13 +2,13 @@
 -- block; the stretch. Assumes nothing.
 use Prim.Native.Nat.{ℕ, ◌+◌, ◌*◌, ◌-◌, ◌≤◌, ◌<◌}
 use native.Mathlib.Omega.{arith}
-use mathlib.Core.Path.{◌≡◌, refl}
+use mathlib.Core.Path.{◌≡◌, refl, sym}
 use mathlib.Core.Bool.{cond, ◌&&◌}
 use mathlib.Core.List.{List, []}
 use lib.ListN.{length, take, drop}
 use lib.Dec.{leb, ltb}
-use borrow.Author.Tests.{leb-true, ltb-true, le-leb, lt-leb, lt-ltb, le-ltb}
-use Rattle.lists.proofs.Testing.{and_true}
+use borrow.Author.Tests.{leb-true, ltb-true, le-leb, lt-ltb}
+use Rattle.lists.proofs.Testing.{tested, and_true}
 use Rattle.words.specs.Words.{word}
 use Rattle.judging.specs.Blocks.{blocks, block, count}
 use Rattle.judging.specs.Log.{Verdict, accepted, refused, judged, Reads}
@@ -51,6 +51,10 @@ asked_had log i e =
       few = omega (arith, (accepted_counted log a.0 i low high).few);
     }
 
+pub given_room : (log : List ℕ) (i : ℕ) → accepted ≡ block_asked log i
+    → (512 * i + 512 ≤ length log) × (i < 26) × (word log (512 * i + 4) ≤ 41)
+given_room log i e = let h = asked_had log i (sym e) in (h.room, h.most, h.few)
+
 -- ---- what is answered
 
 pub asked_refused : (log : List ℕ) (i n j : ℕ) → judged log ≡ refused n j → refused n j ≡ block_asked log i
@@ -58,17 +62,18 @@ unfolding block_asked
 asked_refused log i n j e = rw e
 
 module _ (log : List ℕ) (i : ℕ) (reads : Reads log) where
-  pub asked_zero : i ≡ 0 → refused 34 0 ≡ block_asked log i
-  unfolding block_asked
-  asked_zero z = rw (reads, lt-leb 1 i (omega arith))
-
   pub asked_inside : 0 < i → i < blocks log → accepted ≡ block_asked log i
   unfolding block_asked
   asked_inside low high = rw (reads, le-leb 1 i low, lt-ltb i (blocks log) high)
 
-  pub asked_past : 0 < i → blocks log ≤ i → refused 34 0 ≡ block_asked log i
+  pub asked_outside : (0 < i → i < blocks log → ⊥) → refused 34 0 ≡ block_asked log i
   unfolding block_asked
-  asked_past low high = rw (reads, le-leb 1 i low, le-ltb i (blocks log) high)
+  asked_outside out =
+      tested (leb 1 i && ltb i (blocks log))
+      (λ t.
+      let p = and_true (leb 1 i) (ltb i (blocks log)) t in
+      absurd (out (leb-true 1 i p.0) (ltb-true i (blocks log) p.1)))
+      (λ f. rw (reads, f))
 
 -- ---- the stretch
 

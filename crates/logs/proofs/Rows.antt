@@ -4,20 +4,20 @@ use Prim.Native.Nat.{ℕ, zero, suc, ◌+◌, ◌*◌, ◌-◌, ◌/◌, ◌%◌
 use native.Mathlib.Omega.{arith}
 use mathlib.Core.Path.{◌≡◌, refl, sym, ap, ◌∙◌}
 use mathlib.Core.List.{List, ◌++◌}
-use lib.ListN.{length, get_or, drop, length-append, get_or-append, get_or-eq_default}
+use lib.ListN.{length, get_or, take, drop, length-append, get_or-append, get_or-eq_default}
 use lib.Seq.{get_or-append-add}
 use lib.Dec.{ltb}
 use borrow.Author.Tests.{ltb-true, ltb-false, lt-ltb, le-ltb}
 use Rattle.lists.specs.Lists.{at}
 use Rattle.lists.proofs.Testing.{tested, equal-or}
 use Rattle.words.specs.Words.{word}
-use Rattle.words.proofs.Words.{word_drop}
+use Rattle.words.proofs.Words.{word_drop, word_take}
 use Rattle.rule.specs.Calls.{Call, request}
 use Rattle.rule.proofs.Table.{length_rows, at_rows}
 use Rattle.judging.specs.Blocks.{blocks, block, count, records_to}
 use Rattle.judging.specs.Log.{Reads}
-use Rattle.logs.specs.Records.{entries, column_from, column, asked_times, row_list, row_at, found}
-use Rattle.logs.specs.declared.Found.TheVariants.{Row, End}
+use Rattle.logs.specs.Records.{entries, column_from, column, asked_times, record_in_lem, row_list, row_at, found}
+use Rattle.std.specs.Prelude.{Some, None}
 use Rattle.judging.proofs.Blocks.{records_zero, records_more}
 use Rattle.judging.proofs.Accepted.{accepted_sized, accepted_counted, accepted_last, accepted_most}
 use Rattle.judging.proofs.Accepted.{word_block}
@@ -157,11 +157,22 @@ module _ (log : List ℕ) (r : Reads log) where
         em ∙ sym (at_column 2 (omega arith) log r i (omega (arith, column_same 2 0))),
       )
 
-pub found_row : (log : List ℕ) (i : ℕ) → i < length (asked_times log) → Row (row_at log i) ≡ found log i
+  pub row_in : (i : ℕ) → i < length (asked_times log)
+      → record_in_lem (take (row_place i + 12 - row_place i) (drop (row_place i) log)) ≡ row_at log i
+  unfolding record_in_lem
+  row_in i h =
+      let p = row_place i in
+      let e : p + 12 - p ≡ 12 = omega arith in
+      row_here i _ _ _ h
+      (rw e (word_take 12 (drop p log) 0 (omega arith)) ∙ word_drop p log 0 ∙ ap (word log) (omega arith))
+      (rw e (word_take 12 (drop p log) 4 (omega arith)) ∙ word_drop p log 4)
+      (rw e (word_take 12 (drop p log) 8 (omega arith)) ∙ word_drop p log 8)
+
+pub found_row : (log : List ℕ) (i : ℕ) → i < length (asked_times log) → Some (row_at log i) ≡ found log i
 unfolding found
 found_row log i h = rw (lt-ltb i (length (asked_times log)) h)
 
-pub found_none : (log : List ℕ) (i : ℕ) → length (asked_times log) ≤ i → End ≡ found log i
+pub found_none : (log : List ℕ) (i : ℕ) → length (asked_times log) ≤ i → None ≡ found log i
 unfolding found
 found_none log i h = rw (le-ltb i (length (asked_times log)) h)
 

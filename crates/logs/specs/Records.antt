@@ -1,5 +1,6 @@
 -- Document 01, "The desk's log form": the setup, the rows and the record blocks of a log that reads. Assumes nothing.
-use Rattle.std.specs.Prelude.{ℕ, zero, suc, ◌+◌, ◌*◌, ◌-◌, cond, ◌&&◌, List, [], ◌∷◌, ◌++◌, length, take, drop, leb, ltb}
+use Rattle.std.specs.Prelude.{ℕ, zero, suc, ◌+◌, ◌*◌, ◌-◌, cond, ◌&&◌, List, [], ◌∷◌, ◌++◌, length, take, drop}
+use Rattle.std.specs.Prelude.{Option, Some, None, leb, ltb}
 use Rattle.lists.specs.Lists.{at}
 use Rattle.words.specs.Words.{word}
 use Rattle.rule.specs.Calls.{Call}
@@ -7,16 +8,18 @@ use Rattle.rule.specs.Table.{rows}
 use Rattle.rule.specs.declared.Setup.{Setup}
 use Rattle.judging.specs.Blocks.{blocks, block, setup_in_lem, count}
 use Rattle.judging.specs.Log.{Verdict, accepted, refused, judged}
-use Rattle.logs.specs.declared.Record.{Record}
-use Rattle.logs.specs.declared.Found.{Found}
-use Rattle.logs.specs.declared.Found.TheVariants.{Row, End}
+use Rattle.rule.specs.declared.Request.{Request}
 
 abbrev pub setup_of_lem : List ℕ → Setup
 setup_of_lem log = setup_in_lem (block log 0)
 
 -- ---- the rows
 
--- "records of 12 bytes .. (time, task, amount, a word each)": word w of each of n records
+-- "records of 12 bytes .. (time, task, amount, a word each)": the record in the first of these bytes
+unfoldable pub record_in_lem : List ℕ → Request
+record_in_lem bytes = record { time = word bytes 0; task = word bytes 4; amount = word bytes 8 }
+
+-- word w of each of n records
 unfoldable pub entries : ℕ → ℕ → List ℕ → List ℕ
 entries w zero bytes = []
 entries w (suc n) bytes = word bytes (4 * w) ∷ entries w n (drop 12 bytes)
@@ -45,13 +48,13 @@ abbrev pub row_list : List ℕ → List Call
 row_list log = rows (asked_times log) (asked_tasks log) (asked_amounts log)
 
 -- row i, counted from 0, of a log that reads; 0s past the last
-abbrev pub row_at : List ℕ → ℕ → Record
+abbrev pub row_at : List ℕ → ℕ → Request
 row_at log i =
     record { time = at (asked_times log) i; task = at (asked_tasks log) i; amount = at (asked_amounts log) i }
 
 -- "after the last it says that there is none"
-unfoldable pub found : List ℕ → ℕ → Found
-found log i = cond (ltb i (length (asked_times log))) (Row (row_at log i)) End
+unfoldable pub found : List ℕ → ℕ → Option Request
+found log i = cond (ltb i (length (asked_times log))) (Some (row_at log i)) None
 
 -- ---- a numbered record block
 

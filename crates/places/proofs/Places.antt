@@ -5,18 +5,18 @@ use native.Mathlib.Omega.{arith}
 use mathlib.Core.Path.{◌≡◌, refl, ap, ◌∙◌}
 use mathlib.Core.Bool.{true, false}
 use mathlib.Core.List.{List}
-use lib.ListN.{length}
+use lib.ListN.{length, take, drop}
 use lib.Dec.{ltb}
 use borrow.Author.Tests.{ltb-true, ltb-false, lt-ltb, le-ltb, lt-leb, le-leb, eq-eqb, ne_eqb}
 use Rattle.lists.proofs.Testing.{tested, equal-or}
 use Rattle.words.specs.Words.{word}
 use Rattle.judging.specs.Blocks.{blocks, full_block}
 use Rattle.judging.specs.Log.{Verdict, accepted, refused, judged, Reads}
-use Rattle.logs.specs.Records.{asked_times, row_at, found}
-use Rattle.logs.specs.declared.Found.TheVariants.{Row, End}
-use Rattle.logs.specs.declared.Record.{Record}
+use Rattle.logs.specs.Records.{asked_times, record_in_lem, row_at, found}
+use Rattle.std.specs.Prelude.{Some, None}
+use Rattle.rule.specs.declared.Request.{Request}
 use Rattle.judging.proofs.Accepted.{accepted_counted, word_block}
-use Rattle.logs.proofs.Rows.{column_blocks, column_most, column_some, row_here, found_row, found_none}
+use Rattle.logs.proofs.Rows.{column_blocks, column_most, column_some, row_place, row_in, found_row, found_none}
 use Rattle.places.specs.declared.Taken.{Taken}
 use Rattle.places.specs.Places.{row_number, has_row, taken_at, PlaceOf, Stands, first_block}
 
@@ -70,34 +70,32 @@ module _ (log : List ℕ) (b r : ℕ) (low : 0 < b) (s : PlaceOf log b r) where
 -- ---- what is taken
 
 pub taken_none : (log : List ℕ) (b r : ℕ) → has_row log b r ≡ false
-    → record { found = End; block = b; «record» = r } ≡ taken_at log b r
+    → record { found = None; block = b; «record» = r } ≡ taken_at log b r
 unfolding taken_at
 taken_none log b r h = rw h
 
+pub taken_none_at : (log : List ℕ) (b r : ℕ) → b ≡ 0 → None ≡ (taken_at log b r).found
+taken_none_at log b r z = ap (λ (t : Taken). t.found) (taken_none log b r (has_row_zero log b r z))
+
 -- the words x there are a row
-pub record RowRead (log : List ℕ) (b r : ℕ) (x : Record) : Type 0 where
+pub record RowRead (log : List ℕ) (b r : ℕ) (x : Request) : Type 0 where
   pub has : has_row log b r ≡ true
   pub row : x ≡ row_at log (row_number b r)
 
-pub row_read : (log : List ℕ) (b r t k m : ℕ) → 0 < b → PlaceOf log b r → row_number b r < length (asked_times log)
-    → t ≡ word log (512 * b + 8 + 12 * r) → k ≡ word log (512 * b + 8 + 12 * r + 4)
-    → m ≡ word log (512 * b + 8 + 12 * r + 8) → RowRead log b r (record { time = t; task = k; amount = m })
-row_read log b r t k m low s h et ek em =
-    record {
-      has = has_row_true log b r low h;
-      row =
-          row_here log s.reads (row_number b r) t k m h
-          (et ∙ ap (word log) (omega (arith, s.few)))
-          (ek ∙ ap (word log) (omega (arith, s.few)))
-          (em ∙ ap (word log) (omega (arith, s.few)));
-    }
+pub row_read : (log : List ℕ) (b r : ℕ) {x : Request} → 0 < b → PlaceOf log b r
+    → row_number b r < length (asked_times log)
+    → x ≡ record_in_lem (take (512 * b + 8 + 12 * r + 12 - (512 * b + 8 + 12 * r)) (drop (512 * b + 8 + 12 * r) log))
+    → RowRead log b r x
+row_read log b r low s h e =
+    let p : row_place log s.reads (row_number b r) ≡ 512 * b + 8 + 12 * r = omega (arith, s.few) in
+    record { has = has_row_true log b r low h; row = e ∙ (rw p at (row_in log s.reads (row_number b r) h)) }
 
-module _ {log : List ℕ} {b r : ℕ} {x : Record} (read : RowRead log b r x) where
-  pub taken_last : r ≡ 40 → record { found = Row x; block = b + 1; «record» = 0 } ≡ taken_at log b r
+module _ {log : List ℕ} {b r : ℕ} {x : Request} (read : RowRead log b r x) where
+  pub taken_last : r ≡ 40 → record { found = Some x; block = b + 1; «record» = 0 } ≡ taken_at log b r
   unfolding taken_at
   taken_last e = rw (read.row, read.has, eq-eqb (r + 1) full_block (omega arith))
 
-  pub taken_next : (r ≡ 40 → ⊥) → record { found = Row x; block = b; «record» = r + 1 } ≡ taken_at log b r
+  pub taken_next : (r ≡ 40 → ⊥) → record { found = Some x; block = b; «record» = r + 1 } ≡ taken_at log b r
   unfolding taken_at
   taken_next e = rw (read.row, read.has, ne_eqb (r + 1) full_block (λ f. e (omega arith)))
 

@@ -1,12 +1,12 @@
 -- Document 01, "The desk's log form": the places of a log, what is taken there, where reading begins. Assumes
 -- nothing.
-use Rattle.std.specs.Prelude.{ℕ, ◌+◌, ◌*◌, ◌-◌, ◌≤◌, ◌<◌, ◌≡◌, Bool, cond, ◌&&◌, List, length, eqb, leb, ltb}
+use Rattle.std.specs.Prelude.{ℕ, ◌+◌, ◌*◌, ◌-◌, ◌≤◌, ◌<◌, ◌≡◌, Bool, cond, ◌&&◌, List, length, Some, None, eqb, leb}
+use Rattle.std.specs.Prelude.{ltb}
 use Rattle.rule.specs.Setups.{plain}
 use Rattle.rule.specs.declared.Setup.{Setup}
 use Rattle.judging.specs.Blocks.{full_block}
 use Rattle.judging.specs.Log.{Verdict, accepted, refused, told, judged, Reads}
 use Rattle.logs.specs.Records.{setup_of_lem, asked_times, row_at}
-use Rattle.logs.specs.declared.Found.TheVariants.{Row, End}
 use Rattle.places.specs.declared.Begun.{Begun}
 use Rattle.places.specs.declared.Taken.{Taken}
 
@@ -25,11 +25,11 @@ unfoldable pub taken_at : List ℕ → ℕ → ℕ → Taken
 taken_at log b r =
     cond (has_row log b r)
     (record {
-      found = Row (row_at log (row_number b r));
+      found = Some (row_at log (row_number b r));
       block = cond (eqb (r + 1) full_block) (b + 1) b;
       «record» = cond (eqb (r + 1) full_block) 0 (r + 1);
     })
-    (record { found = End; block = b; «record» = r })
+    (record { found = None; block = b; «record» = r })
 
 -- the setup of the log; on a refused log, where a reader stays at block 0, that of `plain`
 unfoldable pub setup_at_lem : List ℕ → ℕ → Setup

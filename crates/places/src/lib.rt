@@ -1,19 +1,20 @@
 // The places of a log, each a block's number and a record's: what stands there and which place is after it, the
-// setup, and where reading begins. All of it takes the caller's bytes and two numbers, which `reader::Reader` holds.
+// setup, and where reading begins. All of it takes the caller's bytes and two numbers, which `reader::Reader` holds:
+// document 01, "Language forms by place", wants slice and numbers here and the struct there.
 #![tactic(auto)]
 
 ghost use Rattle.std.specs.Prelude.{◌≡◌};
 ghost use Rattle.places.specs.Places.{taken_at, setup_at_lem, Stands, Begins};
 
-use judging::Judged;
-use logs::{Found, Record};
-use rule::Setup;
+use judging::{LogRefusal, judge};
+use logs::{Log, record_in};
+use rule::{Request, Setup};
 use words::word_at;
 
-// What stands at a place of a log, and the place after it.
+// What stands at a place of a log, if anything does, and the place after it, which is there in both cases.
 #[derive(Clone, Copy)]
 pub struct Taken {
-    pub found: Found,
+    pub found: Option<Request>,
     pub block: usize,
     pub record: usize,
 }
@@ -23,26 +24,19 @@ pub fn take_at(log: &[u8], block: usize, record: usize) -> Taken
     requires { Stands log.now block «record» }
     ensures { result ≡ taken_at log.now block «record» }
 {
+    let none = Taken {
+        found: None,
+        block,
+        record,
+    };
     if block == 0 || log.len() / 512 <= block {
-        return Taken {
-            found: Found::End,
-            block,
-            record,
-        };
+        return none;
     }
     if word_at(log, 512 * block + 4) as usize <= record {
-        return Taken {
-            found: Found::End,
-            block,
-            record,
-        };
+        return none; // after the last
     }
     let place = 512 * block + 8 + 12 * record;
-    let found = Found::Row(Record {
-        time: word_at(log, place),
-        task: word_at(log, place + 4),
-        amount: word_at(log, place + 8),
-    });
+    let found = Some(record_in(&log[place..place + 12]));
     if record == 40 {
         return Taken {
             found,
@@ -52,18 +46,17 @@ pub fn take_at(log: &[u8], block: usize, record: usize) -> Taken
     }
     Taken {
         found,
-        block,
         record: record + 1,
+        ..none
     }
 }
 
 // The record at a place, or that there is none.
-pub fn found_at(log: &[u8], block: usize, record: usize) -> Found
+pub fn found_at(log: &[u8], block: usize, record: usize) -> Option<Request>
     requires { Stands log.now block «record» }
     ensures { result ≡ (taken_at log.now block «record»).found }
 {
-    let taken = take_at(log, block, record);
-    taken.found
+    take_at(log, block, record).found
 }
 
 // The setup of the log that a reader at a place stands on, the same at each record; of a refused log, one plain
@@ -73,20 +66,15 @@ pub fn setup_at(log: &[u8], block: usize, _record: usize) -> Setup
     ensures { result ≡ setup_at_lem log.now block }
 {
     if block == 0 {
-        return Setup {
-            policy: 1,
-            count: 1,
-            slice: 0,
-            priority: [0; 32],
-        };
+        return Setup::plain();
     }
-    logs::setup_of(log)
+    Log { bytes: log }.setup()
 }
 
-// What a log is judged to be, and the block at which its reading begins.
+// What a log is judged to be, and the block at which its reading begins: a refused log has one too.
 #[derive(Clone, Copy)]
 pub struct Begun {
-    pub verdict: Judged,
+    pub verdict: Result<(), LogRefusal>,
     pub block: usize,
 }
 
@@ -94,12 +82,9 @@ pub struct Begun {
 pub fn start_of(log: &[u8]) -> Begun
     ensures { Begins log.now result }
 {
-    let verdict = judging::judge(log);
+    let verdict = judge(log);
     match verdict {
-        Judged::Accepted => Begun { verdict, block: 1 },
-        Judged::Refused {
-            number: _,
-            block: _,
-        } => Begun { verdict, block: 0 },
+        Ok(()) => Begun { verdict, block: 1 },
+        Err(_) => Begun { verdict, block: 0 },
     }
 }

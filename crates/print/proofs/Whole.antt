@@ -1,7 +1,8 @@
 -- A log that is too long is refused by its length, so one byte past the longest is enough to print what is printed for all.
 use Rattle.std.proofs.Common.{arith, ◌≡◌, ℕ, ◌/◌, ◌%◌, ◌<◌, false, List, length, take, sym, ap, ◌∙◌, take_all, length-take-le}
-use borrow.Author.Tests.{eqb-true, leb-true, leb-false}
-use Rattle.lists.proofs.Testing.{tested, and_true}
+use borrow.Author.Tests.{leb-true, leb-false}
+use Rattle.std.proofs.lemmas.Bool.Decides.{nat_tests}
+use Rattle.lists.proofs.Testing.{tested}
 use Rattle.lists.specs.Lists.{within}
 use Rattle.std.specs.Prelude.{eqb, leb, ◌&&◌}
 use Rattle.judging.specs.Log.{refused, judged}
@@ -10,15 +11,7 @@ use Rattle.report.specs.Report.{printed, report_text}
 use Rattle.text.specs.Text.{refused_line}
 
 too_long : (n : ℕ) → 13_312 < n → eqb (n % 512) 0 && within 1 26 (n / 512) ≡ false
-too_long n long =
-    tested (eqb (n % 512) 0 && within 1 26 (n / 512))
-    (λ e.
-    let p = and_true (eqb (n % 512) 0) (within 1 26 (n / 512)) e in
-    let q = and_true (leb 1 (n / 512)) (leb (n / 512) 26) p.1 in
-    let none = eqb-true (n % 512) 0 p.0 in
-    let few = leb-true (n / 512) 26 q.1 in
-    absurd (omega (arith, none, few, long)))
-    (λ e. e)
+too_long n long = grind (arith, nat_tests)
 
 long_judged : (log : List ℕ) → 13_312 < length log → judged log ≡ refused 30 0
 unfolding judged length_fits

@@ -13,12 +13,11 @@ fn print_log<R: Read, W: Write>(from: &mut R, to: &mut W) -> io::Result<()>
     ensures { OnOk result (IfSome (R.remaining from.old)
         (λ bytes. Appends (W.contents to.old) (W.contents to.new) (report_text bytes))) }
 {
-    let mut log = [0u8; 13313];
+    let mut log = [0; 13313];
     let n = intake::read_full(from, &mut log)?;
-    let mut out = [0u8; 65536];
+    let mut out = [0; 65536];
     let m = report::report(&log[..n], &mut out);
-    to.write_all(&out[..m])?;
-    Ok(())
+    to.write_all(&out[..m])
 }
 
 fn main(rt: HostRuntime) -> io::Result<()> {

@@ -32,10 +32,8 @@ use denote.Triple.Walked.{says, Stays, stay_none_slice, walk_of, Goes-none_slice
 use denote.Exit.{yes}
 use Rattle.reader.specs.Reading.{OpenedOn}
 use Rattle.reader.specs.declared.Opened.{Opened}
-use Rattle.judging.specs.contracts.Judged as E
-use Rattle.judging.proofs.Judged.TheLaws as E'
 use Rattle.reader.specs.contracts.Opened as O
-use Rattle.walk_laws.proofs.Data.{Data, enum}
+use Rattle.walk_laws.proofs.Data.{Data}
 use Rattle.reader.proofs.Walks.{slice_of, SliceOwn, lasting}
 
 module _ (R : Lfts 1 → RattleType) (Said : (κs : Lfts 1) → Bor (List ℕ) → (R κs).Denot → Type 0) where
@@ -118,5 +116,3 @@ abbrev pub Opens : Lfts 1 → Bor (List ℕ) → Opened → Type 0
 Opens κs s o = OpenedOn s o
 
 -- a verdict
-abbrev pub judged_data : Data
-judged_data = enum E.the_type E'.the_laws E'.the_plain tt (λ x. tt) (λ x f. refl)

@@ -38,13 +38,12 @@ use denote.Triple.Walked.{walked, walk_Meets}
 use Rattle.places.specs.Places.{taken_at, Stands}
 use Rattle.reader.specs.Reading.{Standing}
 use Rattle.reader.specs.declared.Reader.{Reader}
-use Rattle.logs.specs.declared.Found.{Found}
+use Rattle.std.specs.Prelude.{Option}
+use Rattle.rule.specs.declared.Request.{Request}
 use Rattle.places.specs.declared.Taken.{Taken}
 use Rattle.reader.specs.contracts.Reader as T
 use Rattle.reader.proofs.Reader.TheLaws as T'
 use Rattle.walk_laws.proofs.Data.{Data, struct, enum}
-use Rattle.logs.specs.contracts.Found as S
-use Rattle.logs.proofs.Found.TheLaws as S'
 use Rattle.places.specs.contracts.Taken as D
 use Rattle.places.proofs.Taken.TheLaws as D'
 
@@ -239,10 +238,7 @@ module _ {M : Type 1} {𝓤 : Ura M} (𝓛 : Logic 𝓤) (α : NamedLft) (d : Re
 -- ---- what the core calls return
 
 -- `found_at`
-abbrev pub found_data : Data
-found_data = enum S.the_type S'.the_laws S'.the_plain tt (λ x. tt) (λ x f. refl)
-
-abbrev pub Finds : List ℕ → ℕ → ℕ → Found → Type 0
+abbrev pub Finds : List ℕ → ℕ → ℕ → Option Request → Type 0
 Finds log b r f = f ≡ (taken_at log b r).found
 
 -- `take_at`
@@ -251,10 +247,6 @@ taken_data = struct D.the_type D'.the_laws D'.the_plain (λ x. tt) (λ x f. refl
 
 abbrev pub Takes : List ℕ → ℕ → ℕ → Taken → Type 0
 Takes log b r t = t ≡ taken_at log b r
-
-pub found_is : (d : Taken) (vs : List Val) → Is D.the_row d vs
-    → Is S.the_row d.found (found_data.val d.found ∷ [])
-found_is d vs is = (LL.owed D.the_type D'.the_laws d vs is).0
 
 pub block_fits : (d : Taken) (vs : List Val) → Is D.the_row d vs → d.block < 2 ^ 64
 block_fits d vs is = (LL.owed D.the_type D'.the_laws d vs is).1.0.1

@@ -1,14 +1,15 @@
 -- Document 01, "The desk's log form": the reader, its opening and its steps. Assumes nothing.
-use Rattle.std.specs.Prelude.{ℕ, zero, suc, ◌≡◌, List, [], ◌∷◌}
+use Rattle.std.specs.Prelude.{ℕ, zero, suc, ◌-◌, ◌≡◌, cond, List, [], ◌∷◌, length, leb, Option, Some, None, Result}
+use Rattle.std.specs.Prelude.{Ok, Err}
 use Rattle.std.specs.Borrow.{Bor}
 use Rattle.rule.specs.Calls.{Call, request, advance, drain}
 use Rattle.rule.specs.declared.Setup.{Setup}
 use Rattle.judging.specs.Log.{told, judged}
-use Rattle.logs.specs.declared.Found.{Found}
-use Rattle.logs.specs.declared.Found.TheVariants.{Row}
-use Rattle.places.specs.Places.{taken_at, setup_at_lem, Stands, first_block}
+use Rattle.rule.specs.declared.Request.{Request}
+use Rattle.judging.specs.declared.LogRefusal.{LogRefusal}
+use Rattle.logs.specs.Records.{asked_times}
+use Rattle.places.specs.Places.{row_number, taken_at, setup_at_lem, Stands, first_block}
 use Rattle.places.specs.declared.Taken.{Taken}
-use Rattle.reader.specs.declared.First.{First}
 use Rattle.reader.specs.declared.Opened.{Opened}
 use Rattle.reader.specs.declared.Reader.{Reader}
 
@@ -36,29 +37,38 @@ abbrev pub reader_past : Reader → Reader
 reader_past r = record { log = r.log; block = (taken_by r).block; «record» = (taken_by r).«record» }
 
 -- what a step finds, and the reader at exit
-pub record NextIs (r : Reader) (f : Found) (exit : Reader) : Type 0 where
+pub record NextIs (r : Reader) (f : Option Request) (exit : Reader) : Type 0 where
   pub found : f ≡ (taken_by r).found
   pub after : exit ≡ reader_past r
 
+-- how many records a reader has before it; block 0 has none
+abbrev pub rows_left : Reader → ℕ
+rows_left r = cond (leb 1 r.block) (length (asked_times r.log.now) - row_number r.block r.«record») 0
+
 -- the first record of a log; none of a refused one
-abbrev pub first_found : List ℕ → Found
+abbrev pub first_found : List ℕ → Option Request
 first_found log = (taken_at log (first_block (judged log)) 0).found
 
-pub record FirstOf (log : List ℕ) (f : First) : Type 0 where
-  pub verdict : told f.verdict ≡ judged log
-  pub found : f.found ≡ first_found log
+-- what an answer finds; none where it refuses
+abbrev pub found_in : Result (Option Request) LogRefusal → Option Request
+found_in (Ok f) = f
+found_in (Err e) = None
+
+pub record FirstOf (log : List ℕ) (r : Result (Option Request) LogRefusal) : Type 0 where
+  pub verdict : told r ≡ judged log
+  pub found : found_in r ≡ first_found log
 
 -- ---- reading on
 
 -- what n steps find
-unfoldable pub nexts : Reader → ℕ → List Found
+unfoldable pub nexts : Reader → ℕ → List (Option Request)
 nexts r zero = []
 nexts r (suc n) = (taken_by r).found ∷ nexts (reader_past r) n
 
 -- rows as a reader finds them
-unfoldable pub found_rows : List Call → List Found
+unfoldable pub found_rows : List Call → List (Option Request)
 found_rows [] = []
 found_rows (request time task amount ∷ cs) =
-    Row (record { time = time; task = task; amount = amount }) ∷ found_rows cs
+    Some (record { time = time; task = task; amount = amount }) ∷ found_rows cs
 found_rows (advance time ∷ cs) = found_rows cs
 found_rows (drain ∷ cs) = found_rows cs

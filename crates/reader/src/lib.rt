@@ -1,17 +1,18 @@
 // The reader of a log: it stays on the caller's bytes and knows its next record. The work is done by `places`, on the
-// bytes and two numbers; here stand thin calls over the struct.
+// bytes and two numbers; here stands the struct that holds them.
 #![tactic(auto)]
 
 ghost use Rattle.std.specs.Prelude.{◌≡◌};
+ghost use Rattle.std.specs.Iterator.{at_most};
 ghost use Rattle.places.specs.Places.{taken_at, Stands};
-ghost use Rattle.reader.specs.Reading.{OpenedOn, Standing, taken_by, setup_by, NextIs, FirstOf};
+ghost use Rattle.reader.specs.Reading.{OpenedOn, Standing, taken_by, setup_by, NextIs, rows_left, FirstOf};
 
-use judging::Judged;
-use logs::Found;
-use places::{Taken, found_at, setup_at, start_of, take_at};
-use rule::Setup;
+use judging::LogRefusal;
+use places::{found_at, setup_at, start_of, take_at};
+use rule::{Request, Setup};
 
-// A reader on the caller's log, before record `record` of block `block`.
+// A reader on the caller's log, before record `record` of block `block`. That it stands at a place of the log is asked by
+// its methods and is no ghost field: `reader_on` and `reader_past` of specs/ make readers of any bytes.
 #[derive(Clone, Copy)]
 pub struct Reader<'a> {
     pub log: &'a [u8],
@@ -19,15 +20,51 @@ pub struct Reader<'a> {
     pub record: usize,
 }
 
-// What a log is judged to be, and a reader on it.
+impl<'a> Reader<'a> {
+    // The next record, or that there is none; the reader stays.
+    pub fn peek(&self) -> Option<Request>
+        requires { Standing self.now }
+        ensures { result ≡ (taken_by self.now).found }
+    {
+        found_at(self.log, self.block, self.record)
+    }
+
+    // The setup of the log that the reader stands on; of a refused log, one plain setup.
+    pub fn setup(&self) -> Setup
+        requires { Standing self.now }
+        ensures { result ≡ setup_by self.now }
+    {
+        setup_at(self.log, self.block, self.record)
+    }
+}
+
+// The records from the reader's place on. `next` passes a record; after the last there is none, and the reader stays.
+impl<'a> Iterator for Reader<'a> {
+    type Item = Request;
+
+    ghost can_next = { Standing };
+
+    ghost next_gives = { NextIs };
+
+    ghost remaining = { λ reader. at_most (rows_left reader) };
+
+    fn next(&mut self) -> Option<Request> {
+        let taken = take_at(self.log, self.block, self.record);
+        self.block = taken.block;
+        self.record = taken.record;
+        taken.found
+    }
+}
+
+// What a log is judged to be, and a reader on it. There is a reader on a refused log too, which finds no record.
 #[derive(Clone, Copy)]
 pub struct Opened<'a> {
-    pub verdict: Judged,
+    pub verdict: Result<(), LogRefusal>,
     pub reader: Reader<'a>,
 }
 
 // Opens a log: judges it whole. On a refused log the reader finds no record.
-pub fn open_log<'a>(log: &'a [u8]) -> Opened<'a>
+pub fn open_log(log: &[u8]) -> Opened<'_>
     ensures { OpenedOn log.entry result }
 {
     let start = start_of(log);
@@ -41,61 +78,11 @@ pub fn open_log<'a>(log: &'a [u8]) -> Opened<'a>
     }
 }
 
-// The reader's next record, or that there is none; the reader stays.
-pub fn peek<'a>(reader: Reader<'a>) -> Found
-    requires { Standing reader }
-    ensures { result ≡ (taken_by reader.entry).found }
-{
-    found_at(reader.log, reader.block, reader.record)
-}
-
-// The setup of the log that the reader stands on; of a refused log, one plain setup.
-pub fn setup_of<'a>(reader: Reader<'a>) -> Setup
-    requires { Standing reader }
-    ensures { result ≡ setup_by reader.entry }
-{
-    setup_at(reader.log, reader.block, reader.record)
-}
-
-// The reader's next record, which it passes; after the last, that there is none, and it stays.
-pub fn next<'s, 'a>(reader: &'s mut Reader<'a>) -> Found
-    requires { Standing reader.old }
-    ensures { NextIs reader.old result reader.new }
-{
-    let taken = take_at(reader.log, reader.block, reader.record);
-    reader.block = taken.block;
-    reader.record = taken.record;
-    taken.found
-}
-
-// What a log is judged to be, and its first record.
-#[derive(Clone, Copy)]
-pub struct First {
-    pub verdict: Judged,
-    pub found: Found,
-}
-
-// Opens a log and looks at its first record.
-pub fn first_row(log: &[u8]) -> First
+// The first record of a log, or that there is none, or why the log is refused.
+pub fn first_row(log: &[u8]) -> Result<Option<Request>, LogRefusal>
     ensures { FirstOf log.now result }
 {
     let opened = open_log(log);
-    First {
-        verdict: opened.verdict,
-        found: peek(opened.reader),
-    }
-}
-
-// `take_at` by a reader that is lent to `next`.
-pub fn taken_through(log: &[u8], block: usize, record: usize) -> Taken
-    requires { Stands log.now block «record» }
-    ensures { result ≡ taken_at log.now block «record» }
-{
-    let mut reader = Reader { log, block, record };
-    let found = next(&mut reader);
-    Taken {
-        found,
-        block: reader.block,
-        record: reader.record,
-    }
+    opened.verdict?;
+    Ok(opened.reader.peek())
 }

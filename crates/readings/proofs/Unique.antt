@@ -1,49 +1,46 @@
 -- No two different outcomes satisfy the promise of a reading: each definition that tells an answer has one answer for
 -- what it tells. Assumes nothing.
-use mathlib.Core.Path.{◌≡◌, refl}
+use Rattle.std.specs.Prelude.{ℕ, ◌≡◌, Option, None, Some, Result, Ok, Err}
+use Rattle.std.proofs.Common.{refl}
 use Rattle.rule.specs.Readings.{Reading, value, never, refused, Soonest, nothing, done}
 use Rattle.rule.specs.View.{Determined}
 use Rattle.laws.proofs.Unique.{by_inverse}
+use Rattle.engine.specs.declared.NextDone.{NextDone}
 use Rattle.readings.specs.Answers.{ticks_told, completion_told, next_told}
-use Rattle.readings.specs.declared.TaskTicks.{TaskTicks}
-use Rattle.readings.specs.declared.TaskTicks.TheVariants as ticks
-use Rattle.readings.specs.declared.Completion.{Completion}
-use Rattle.readings.specs.declared.Completion.TheVariants as completion
-use Rattle.readings.specs.declared.Next.{Next}
-use Rattle.readings.specs.declared.Next.TheVariants as next
+use Rattle.readings.specs.declared.NoSuchTask.{NoSuchTask}
 
-pub ticks_determined : (v : Reading) → Determined (λ (r : TaskTicks). ticks_told r ≡ v)
+pub ticks_determined : (v : Reading) → Determined (λ (r : Result ℕ NoSuchTask). ticks_told r ≡ v)
 ticks_determined = by_inverse ticks_told found again
   where
-    found : Reading → TaskTicks
-    found (value n) = ticks.Ticks n
-    found never = ticks.NoSuchTask
-    found (refused n) = ticks.NoSuchTask
+    found : Reading → Result ℕ NoSuchTask
+    found (value n) = Ok n
+    found never = Err (record {})
+    found (refused n) = Err (record {})
 
-    again : (r : TaskTicks) → found (ticks_told r) ≡ r
-    again (ticks.Ticks n) = refl
-    again ticks.NoSuchTask = refl
+    again : (r : Result ℕ NoSuchTask) → found (ticks_told r) ≡ r
+    again (Ok n) = refl
+    again (Err e) = refl
 
-pub completion_determined : (v : Reading) → Determined (λ (r : Completion). completion_told r ≡ v)
+pub completion_determined : (v : Reading) → Determined (λ (r : Result (Option ℕ) NoSuchTask). completion_told r ≡ v)
 completion_determined = by_inverse completion_told found again
   where
-    found : Reading → Completion
-    found (value n) = completion.At n
-    found never = completion.Never
-    found (refused n) = completion.NoSuchTask
+    found : Reading → Result (Option ℕ) NoSuchTask
+    found (value n) = Ok (Some n)
+    found never = Ok None
+    found (refused n) = Err (record {})
 
-    again : (r : Completion) → found (completion_told r) ≡ r
-    again (completion.At n) = refl
-    again completion.Never = refl
-    again completion.NoSuchTask = refl
+    again : (r : Result (Option ℕ) NoSuchTask) → found (completion_told r) ≡ r
+    again (Ok (Some n)) = refl
+    again (Ok None) = refl
+    again (Err e) = refl
 
-pub next_determined : (v : Soonest) → Determined (λ (r : Next). next_told r ≡ v)
+pub next_determined : (v : Soonest) → Determined (λ (r : Option NextDone). next_told r ≡ v)
 next_determined = by_inverse next_told found again
   where
-    found : Soonest → Next
-    found (done k t) = next.Done k t
-    found nothing = next.Nothing
+    found : Soonest → Option NextDone
+    found (done k t) = Some (record { task = k; time = t })
+    found nothing = None
 
-    again : (r : Next) → found (next_told r) ≡ r
-    again (next.Done k t) = refl
-    again next.Nothing = refl
+    again : (r : Option NextDone) → found (next_told r) ≡ r
+    again (Some d) = refl
+    again None = refl

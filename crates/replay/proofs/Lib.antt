@@ -1,3 +1,2 @@
 pub mod Calling
-pub mod Opening
 pub mod Unique

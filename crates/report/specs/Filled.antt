@@ -2,14 +2,6 @@
 use Rattle.std.specs.Prelude.{ℕ, ◌≤◌, ◌≡◌, List, length, take}
 use Rattle.rule.specs.Table.{most_rows}
 use Rattle.logs.specs.Records.{asked_times, asked_tasks, asked_amounts}
-use Rattle.logs.specs.declared.Found.{Found}
-use Rattle.logs.specs.declared.Found.TheVariants.{Row, End}
-use Rattle.logs.specs.declared.Record.{Record}
-
--- the record that was found; zeros where there was none
-abbrev pub record_in_lem : Found → Record
-record_in_lem (Row row) = row
-record_in_lem End = record { time = 0; task = 0; amount = 0 }
 
 -- Three columns with an entry for each row that a log may have.
 pub record Roomy (times tasks amounts : List ℕ) : Type 0 where

@@ -1,1 +1,3 @@
 pub mod Early
+pub mod Numbers
+pub mod Columns

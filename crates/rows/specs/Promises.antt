@@ -1,11 +1,12 @@
 -- What the functions inside a table run promise. Rows count from 1 in `last` and `noted`. Assumes nothing.
-use Rattle.std.specs.Prelude.{ℕ, zero, suc, ◌+◌, ◌≡◌, cond, List, [], ◌∷◌, ◌++◌, length, eqb}
-use Rattle.lists.specs.Lists.{at}
-use Rattle.lists.specs.Lists.{Below}
+use Rattle.std.specs.Prelude.{ℕ, zero, suc, ◌+◌, ◌≡◌, cond, List, [], ◌∷◌, ◌++◌, length, eqb, Result, IfOk, IfErr}
+use Rattle.lists.specs.Lists.{at, Below}
 use Rattle.rule.specs.State.{State}
 use Rattle.rule.specs.Calls.{Call}
 use Rattle.rule.specs.Table.{refused, finished, outcome_from}
+use Rattle.requests.specs.Numbers.{call_refusal_number}
 use Rattle.rows.specs.declared.Ran.{Ran}
+use Rattle.rows.specs.declared.RowRefusal.{RowRefusal}
 
 -- ---- each row's completion
 
@@ -29,13 +30,18 @@ settled_column ks last done noted = settled_rows ks last done noted (length ks)
 -- ---- the rows run
 
 -- All rows were accepted, each for one of the 32 tasks, and the run was drained.
-pub record AllTaken (s : State) (cs : List Call) (ks : List ℕ) (r : Ran) (noted : List ℕ) : Type 0 where
+pub record AllTaken (s : State) (cs : List Call) (ks noted : List ℕ) (ran : Ran) : Type 0 where
   pub known : Below 32 ks
-  pub ends : outcome_from s cs ≡ finished (settled_column ks r.last r.done noted) r.end
+  pub ends : outcome_from s cs ≡ finished (settled_column ks ran.last ran.done noted) ran.end
+
+-- This row was refused, and none before it.
+abbrev pub StoppedAt : State → List Call → RowRefusal → Type 0
+StoppedAt s cs at_row = outcome_from s cs ≡ refused (call_refusal_number at_row.refusal) at_row.row
 
 -- The rows were run until one was refused, or all. This does not fix `last`, `done` and `noted` by themselves: where
 -- all rows are accepted it fixes the completions that they settle, and these alone reach the caller of a table.
-pub record Runs (s : State) (cs : List Call) (ks : List ℕ) (r : Ran) (before noted : List ℕ) : Type 0 where
-  pub room : length noted ≡ length before
-  pub stopped : (r.refusal ≡ 0 → ⊥) → outcome_from s cs ≡ refused r.refusal r.end
-  pub taken : r.refusal ≡ 0 → AllTaken s cs ks r noted
+pub record Runs (s : State) (cs : List Call) (ks : List ℕ) (r : Result Ran RowRefusal) (before noted : List ℕ) : Type 0
+  where
+    pub room : length noted ≡ length before
+    pub stopped : IfErr r (StoppedAt s cs)
+    pub taken : IfOk r (AllTaken s cs ks noted)

@@ -1,21 +1,28 @@
-// The rows of a table: run one after the other on arrays of their own, and the completions written.
+// The rows of a table: run one after the other on the parts of a run, and the completions written.
 #![tactic(auto)]
 
 ghost use Rattle.std.specs.Prelude.{◌≡◌, ◌≤◌, ◌<◌, cond, ◌++◌, length, set, drop, eqb};
-ghost use Rattle.lists.specs.Lists.{at};
-ghost use Rattle.lists.specs.Lists.{Below};
+ghost use Rattle.lists.specs.Lists.{at, Below};
 ghost use Rattle.rule.specs.State.{fresh};
-ghost use Rattle.rule.specs.Table.{rows, most_rows};
-ghost use Rattle.laws.specs.Rows.{Fitted};
+ghost use Rattle.rule.specs.Table.{most_rows};
+ghost use Rattle.requests.specs.Columns.{rows_of, ColumnsFitted};
 ghost use Rattle.rows.specs.Promises.{Runs, settled_column};
 
-use rule::Setup;
+use engine::Live;
+use requests::{CallRefusal, Columns};
+use rule::{Request, Setup};
 
-// The rows run: the refusal or 0; where they ended, by the row that was refused or by the clock after the drain; each
-// task's last row or 0; and each task's latest completion. Rows count from 1.
+// The first row that is refused, counted from 1, and why.
+#[derive(Clone, Copy, Debug, PartialEq, Eq)]
+pub struct RowRefusal {
+    pub row: u32,
+    pub refusal: CallRefusal,
+}
+
+// The rows run: the clock after the drain; each task's last row, counted from 1, or 0; and each task's latest
+// completion. 0 is a place among the notes too, which no row reads: so a task's first row is noted without a test.
 #[derive(Clone, Copy)]
 pub struct Ran {
-    pub refusal: u32,
     pub end: u32,
     pub last: [u32; 32],
     pub done: [u32; 32],
@@ -35,62 +42,40 @@ fn note(task: usize, row: u32, done: &[u32; 32], last: &mut [u32; 32], noted: &m
     last[task] = row;
 }
 
-// The rows are requested in order, up to the first that is refused; after the last the run drains. Of the notes, last
-// rows and completions after a refused row nothing is promised: `table`, the only caller, answers the refusal and
-// reads none of them.
-pub fn run_rows(
-    setup: Setup,
-    times: &[u32],
-    tasks: &[u32],
-    amounts: &[u32],
-    noted: &mut [u32],
-) -> Ran
-    requires fitted { Fitted setup (length times.now) (length tasks.now) (length amounts.now) }
-    requires times_in_bounds { length times.now < length noted.old }
-    ensures { Runs (fresh setup) (rows times.now tasks.now amounts.now)
-        tasks.now result noted.old noted.new }
+// The rows are requested in order, up to the first that is refused; after the last the run drains. Of the notes after
+// a refused row nothing is promised: `table`, the only caller, answers the refusal and reads none of them.
+pub fn run_rows(setup: Setup, columns: Columns<'_>, noted: &mut [u32]) -> Result<Ran, RowRefusal>
+    requires fitted { ColumnsFitted setup columns }
+    requires times_in_bounds { length columns.times.now < length noted.old }
+    ensures { Runs (fresh setup) (rows_of columns.entry)
+        columns.entry.tasks.now result noted.old noted.new }
 {
-    let mut queue = [0u8; 32];
-    let mut owed = [0u32; 32];
-    let mut given = [0u32; 32];
-    let mut done = [0u32; 32];
-    let mut last = [0u32; 32];
-    let mut cursor = legs::Cursor {
-        clock: 0,
-        idle: 0,
-        used: 0,
-        queued: 0,
-        head: 0,
-    };
-    let mut i: usize = 0;
-    while i < times.len() {
-        let task = tasks[i];
+    let mut live = Live::fresh(setup);
+    let mut last = [0; 32];
+    for i in 0..columns.times.len() {
+        // The columns fit; `Columns::row` would ask at each entry whether it is past an end.
+        let request = Request {
+            time: columns.times[i],
+            task: columns.tasks[i],
+            amount: columns.amounts[i],
+        };
         let row = i as u32 + 1;
-        let asked = engine::ask(
-            setup, cursor, times[i], task, amounts[i], &mut queue, &mut owed, &mut given, &mut done,
-        );
-        if asked.refusal != 0 {
-            return Ran {
-                refusal: asked.refusal,
-                end: row,
-                last,
-                done,
-            };
+        if let Err(refusal) = live.ask(request) {
+            return Err(RowRefusal { row, refusal });
         }
-        note(task as usize, row, &done, &mut last, noted);
-        cursor = asked.cursor;
-        i += 1;
+        let task = request.task as usize;
+        note(task, row, &live.arrays.done, &mut last, noted);
     }
-    let end = engine::drain_on(setup, cursor, &mut queue, &mut owed, &mut given, &mut done);
-    Ran {
-        refusal: 0,
-        end: end.clock,
+    live.drain();
+    Ok(Ran {
+        end: live.cursor.clock,
         last,
-        done,
-    }
+        done: live.arrays.done,
+    })
 }
 
 // A row's completion: the task's latest if the row is its task's last, else what was noted.
+#[tactic(auto, using(std::proofs::lemmas::Bool::Decides::nat_tests))]
 fn one_of(last: u32, row: u32, done: u32, noted: u32) -> u32
     ensures { result ≡ cond (eqb last row) done noted }
 {
@@ -98,19 +83,18 @@ fn one_of(last: u32, row: u32, done: u32, noted: u32) -> u32
 }
 
 // The completions are written; the entries past the rows stay.
-pub fn put_result(tasks: &[u32], last: [u32; 32], done: [u32; 32], noted: &[u32], res: &mut [u32])
+#[tactic(auto, using(crate::proofs::Putting::putting_start))]
+pub fn put_result(tasks: &[u32], ran: &Ran, noted: &[u32], res: &mut [u32])
     requires tasks_len_bound { length tasks.now ≤ most_rows }
     requires tasks_in_bounds { length tasks.now < length noted.now }
     requires tasks_in_bounds_2 { length tasks.now ≤ length res.old }
     requires below { Below 32 tasks.now }
-    ensures { res.new ≡ settled_column tasks.now last done noted.now
+    ensures { res.new ≡ settled_column tasks.now ran.now.last ran.now.done noted.now
         ++ drop (length tasks.now) res.old }
 {
-    let mut i: usize = 0;
-    while i < tasks.len() {
-        let k = tasks[i] as usize;
+    for (i, task) in tasks.iter().enumerate() {
+        let task = *task as usize;
         let own = i as u32 + 1;
-        res[i] = one_of(last[k], own, done[k], noted[i + 1]);
-        i += 1;
+        res[i] = one_of(ran.last[task], own, ran.done[task], noted[i + 1]);
     }
 }

@@ -1,134 +1,153 @@
 // Judging a setup, refusals 1 to 4, and putting it together: one place for runs, tables and logs.
 #![tactic(auto)]
 
-ghost use Rattle.std.specs.Prelude.{◌≡◌, ◌||◌, ◌≤◌, length, drop, eqb};
+ghost use Rattle.std.specs.Prelude.{◌≡◌, ◌≤◌, cond, length, drop, eqb};
 ghost use Rattle.lists.specs.Lists.{within, zeros};
-ghost use Rattle.rule.specs.Setups.{asked, slice_fits_lem, bytes_fit_lem, setup_refusal_lem};
-ghost use Rattle.setups.specs.Judging.{JudgesSetup};
+ghost use Rattle.rule.specs.Setups.{slice_fits_lem, bytes_fit_lem, setup_refusal_lem};
+ghost use Rattle.setups.specs.Numbers.{refusal_number, policy_number, KnownPolicy, setup_number};
+ghost use Rattle.setups.specs.Judging.{asked_by, JudgesSetup};
 
 use rule::Setup;
 
-// Whether n is from low to high.
+// Why a setup is refused: refusals 1 to 4.
+#[derive(Clone, Copy, Debug, PartialEq, Eq)]
+pub enum SetupRefusal {
+    WrongPolicy = 1,
+    WrongCount = 2,
+    WrongSlice = 3,
+    WrongPriorities = 4,
+}
+
+impl From<SetupRefusal> for u32 {
+    ghost from_gives = { λ refusal number. number ≡ refusal_number refusal };
+
+    fn from(refusal: SetupRefusal) -> u32 {
+        refusal as u32
+    }
+}
+
+// "1 priority, 2 round robin".
+#[derive(Clone, Copy, Debug, PartialEq, Eq)]
+pub enum Policy {
+    Priority = 1,
+    RoundRobin = 2,
+}
+
+impl TryFrom<u32> for Policy {
+    type Error = SetupRefusal;
+
+    ghost try_from_gives = { KnownPolicy };
+
+    fn try_from(number: u32) -> Result<Policy, SetupRefusal> {
+        match number {
+            1 => Ok(Policy::Priority),
+            2 => Ok(Policy::RoundRobin),
+            _ => Err(SetupRefusal::WrongPolicy),
+        }
+    }
+}
+
+// A setup as it is asked for: any numbers, and priorities of any length.
+#[derive(Clone, Copy)]
+pub struct Asked<'a> {
+    pub policy: u32,
+    pub count: u32,
+    pub slice: u32,
+    pub priorities: &'a [u8],
+}
+
+// The setup that is asked for is one that a run could have.
+impl<'a> From<&'a Setup> for Asked<'a> {
+    ghost from_gives = { λ setup wanted. asked_by wanted ≡ setup.now };
+
+    fn from(setup: &'a Setup) -> Asked<'a> {
+        Asked {
+            policy: setup.policy,
+            count: setup.count,
+            slice: setup.slice,
+            priorities: &setup.priority,
+        }
+    }
+}
+
+// Whether n is from low to high: `contains` in the words of the definitions.
 fn is_within(low: u32, high: u32, n: u32) -> bool
     ensures { result ≡ within low high n }
 {
-    low <= n && n <= high
+    (low..=high).contains(&n)
 }
 
-// Whether a policy is known.
-fn is_policy(policy: u32) -> bool
-    ensures { result ≡ (eqb policy 1 || eqb policy 2) }
+// Whether the bytes are 0.
+fn all_zero(bytes: &[u8]) -> bool
+    ensures { result ≡ zeros bytes.now }
 {
-    policy == 1 || policy == 2
-}
-
-// Whether the bytes from a place on are 0.
-fn zeros_from(bytes: &[u8], from: usize) -> bool
-    requires { from ≤ length bytes.now }
-    ensures { result ≡ zeros (drop from bytes.now) }
-{
-    let mut i = from;
-    while i < bytes.len() {
-        if bytes[i] != 0 {
+    for byte in bytes {
+        if *byte != 0 {
             return false;
         }
-        i += 1;
     }
     true
 }
 
 // Whether a slice is as the policy asks.
-fn slice_fits(policy: u32, slice: u32) -> bool
-    ensures { result ≡ slice_fits_lem policy slice }
+#[tactic(auto, unfolding(rule::specs::Setups::slice_fits_lem))]
+fn slice_fits(policy: Policy, slice: u32) -> bool
+    ensures { result ≡ slice_fits_lem (policy_number policy) slice }
 {
-    if policy == 1 {
-        return slice == 0;
+    match policy {
+        Policy::Priority => slice == 0,
+        Policy::RoundRobin => is_within(1, 65_535, slice),
     }
-    is_within(1, 65_535, slice)
+}
+
+// The first byte that the policy and the count want to be 0, as all after it.
+fn first_unused(policy: Policy, count: u32) -> usize
+    ensures { result ≡ cond (eqb (policy_number policy) 1) count 0 }
+{
+    match policy {
+        Policy::Priority => count as usize,
+        Policy::RoundRobin => 0,
+    }
 }
 
 // Whether there are 32 bytes, each 0 that the policy and the count want to be 0.
-fn bytes_fit(policy: u32, count: u32, bytes: &[u8]) -> bool
+#[tactic(auto, unfolding(rule::specs::Setups::bytes_fit_lem))]
+fn bytes_fit(policy: Policy, count: u32, bytes: &[u8]) -> bool
     requires { count ≤ 32 }
-    ensures { result ≡ bytes_fit_lem policy count bytes.now }
+    ensures { result ≡ bytes_fit_lem (policy_number policy) count bytes.now }
 {
-    if bytes.len() != 32 {
-        return false;
-    }
-    if policy == 1 {
-        return zeros_from(bytes, count as usize);
-    }
-    zeros_from(bytes, 0)
+    bytes.len() == 32 && all_zero(&bytes[first_unused(policy, count)..])
 }
 
-// The refusal of a setup, 0 where it is accepted. Any numbers and any length of priorities are taken.
-pub fn setup_refusal(policy: u32, count: u32, slice: u32, priorities: &[u8]) -> u32
-    ensures { result ≡ setup_refusal_lem (asked policy count slice priorities.now) }
+// Why a setup is refused, if it is.
+#[tactic(auto, unfolding(rule::specs::Setups::setup_refusal_lem))]
+pub fn setup_refusal(wanted: Asked<'_>) -> Result<(), SetupRefusal>
+    ensures { setup_number result ≡ setup_refusal_lem (asked_by wanted.entry) }
 {
-    if !is_policy(policy) {
-        return 1;
+    let policy = Policy::try_from(wanted.policy)?;
+    if !is_within(1, 32, wanted.count) {
+        return Err(SetupRefusal::WrongCount);
     }
-    if !is_within(1, 32, count) {
-        return 2;
+    if !slice_fits(policy, wanted.slice) {
+        return Err(SetupRefusal::WrongSlice);
     }
-    if !slice_fits(policy, slice) {
-        return 3;
+    if !bytes_fit(policy, wanted.count, wanted.priorities) {
+        return Err(SetupRefusal::WrongPriorities);
     }
-    if !bytes_fit(policy, count, priorities) {
-        return 4;
-    }
-    0
+    Ok(())
 }
 
-// A slice of 32 bytes as an array.
-fn array_of(bytes: &[u8]) -> [u8; 32]
-    requires { length bytes.now ≡ 32 }
-    ensures { result ≡ bytes.now }
+// Judges a setup and puts it together.
+pub fn judged_setup(wanted: Asked<'_>) -> Result<Setup, SetupRefusal>
+    ensures { JudgesSetup (asked_by wanted.entry) result }
 {
-    let mut copy = [0u8; 32];
-    let mut i: usize = 0;
-    while i < 32 {
-        copy[i] = bytes[i];
-        i += 1;
-    }
-    copy
-}
-
-// The setup of these numbers and 32 priorities.
-fn setup_with(policy: u32, count: u32, slice: u32, priorities: &[u8]) -> Setup
-    requires { length priorities.now ≡ 32 }
-    ensures { result ≡ asked policy count slice priorities.now }
-{
-    let priority = array_of(priorities);
-    Setup {
-        policy,
-        count,
-        slice,
+    setup_refusal(wanted)?;
+    let mut priority = [0; 32];
+    priority.copy_from_slice(wanted.priorities);
+    Ok(Setup {
+        policy: wanted.policy,
+        count: wanted.count,
+        slice: wanted.slice,
         priority,
-    }
-}
-
-// A setup's refusal, 0 where it is accepted, and the setup; one plain setup where it is refused.
-#[derive(Clone, Copy)]
-pub struct JudgedSetup {
-    pub refusal: u32,
-    pub setup: Setup,
-}
-
-// Judges a setup and puts it together. Any numbers and any length of priorities are taken.
-pub fn judged_setup(policy: u32, count: u32, slice: u32, priorities: &[u8]) -> JudgedSetup
-    ensures { JudgesSetup (asked policy count slice priorities.now) result }
-{
-    let refusal = setup_refusal(policy, count, slice, priorities);
-    if refusal != 0 {
-        let setup = Setup {
-            policy: 1,
-            count: 1,
-            slice: 0,
-            priority: [0; 32],
-        };
-        return JudgedSetup { refusal, setup };
-    }
-    let setup = setup_with(policy, count, slice, priorities);
-    JudgedSetup { refusal, setup }
+    })
 }

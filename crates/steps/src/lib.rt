@@ -1,5 +1,7 @@
 // A step of the clock on a run taken apart: idle ticks, or a leg. In order: what a leg gives, the cursor after the last
-// ticks of a task, the step.
+// ticks of a task, the step. The cursor goes by value from one function to the next, and so stays in registers; the
+// facts of a run taken apart are asked here, and held by a type only where it stands in memory.
+// A bound on a task or a count holds of the arguments of one call, and is asked there.
 #![tactic(auto)]
 
 ghost use Rattle.std.specs.Prelude.{◌≡◌, ◌+◌, ◌≤◌, ◌<◌, ◌^◌};
@@ -7,11 +9,11 @@ ghost use Rattle.lists.specs.Lists.{at};
 ghost use Rattle.laws.specs.Sound.{Sound};
 ghost use Rattle.laws.specs.Drains.{last_clock};
 ghost use Rattle.line.specs.Places.{Tasks};
-ghost use Rattle.legs.specs.Parts.{parts, Kept};
+ghost use Rattle.legs.specs.Parts.{state_of, Kept};
 ghost use Rattle.legs.specs.Legs.{owed_after, given_after};
 ghost use Rattle.steps.specs.Steps.{Finished, Stepped};
 
-use legs::{Cursor, Leg};
+use legs::{Arrays, Cursor, Leg};
 use rule::Setup;
 
 // The task gets its ticks.
@@ -23,105 +25,73 @@ fn given_to(leg: Leg, owed: &mut [u32; 32], given: &mut [u32; 32])
     ensures given_after { given.new ≡ given_after leg given.old }
 {
     let i = leg.task as usize;
-    let o = owed[i];
-    let g = given[i];
-    owed[i] = o - leg.n;
-    given[i] = g + leg.n;
+    owed[i] -= leg.n;
+    given[i] += leg.n;
 }
 
-// After the last n ticks that the task at the head is owed: it leaves the queue.
-fn finished(
-    p: Setup,
-    c: Cursor,
-    task: u8,
-    n: u32,
-    queue: &mut [u8; 32],
-    done: &mut [u32; 32],
-) -> Cursor
-    requires n_bound { c.clock + n < 2 ^ 32 }
-    requires kept { Kept p c queue.old }
-    requires queued_nonzero { 0 < c.queued }
+// After the last ticks that the task at the head is owed: it leaves the queue.
+fn finished(p: &Setup, leg: Leg, queue: &mut [u8; 32], done: &mut [u32; 32]) -> Cursor
+    requires n_bound { leg.cursor.clock + leg.n < 2 ^ 32 }
+    requires kept { Kept p.now leg.cursor queue.old }
+    requires queued_nonzero { 0 < leg.cursor.queued }
     requires tasks { Tasks queue.old }
-    requires task_bound { task < 32 }
-    ensures { Finished p c task n queue.old done.old result
+    requires task_bound { leg.task < 32 }
+    ensures { Finished p.now leg.cursor leg.task leg.n queue.old done.old result
         queue.new done.new }
 {
-    let i = task as usize;
-    let clock = c.clock + n;
-    done[i] = clock;
+    let c = leg.cursor;
+    let clock = c.clock + leg.n;
+    done[leg.task as usize] = clock;
     let left = c.queued - 1;
     line::take_out(queue, c.head, c.queued);
     let head = line::head_of(p, c.head, left, queue);
     Cursor {
         clock,
-        idle: c.idle,
         used: 0, // of the next head's slice
         queued: left,
         head,
+        ..c
     }
 }
 
 // The next leg is given.
-fn give_leg(
-    p: Setup,
-    c: Cursor,
-    limit: u32,
-    queue: &mut [u8; 32],
-    owed: &mut [u32; 32],
-    given: &mut [u32; 32],
-    done: &mut [u32; 32],
-) -> Cursor
-    requires kept { Kept p c queue.old }
-    requires sound { Sound (parts p c queue.old owed.old given.old done.old) }
+fn give_leg(p: &Setup, c: Cursor, limit: u32, arrays: &mut Arrays) -> Cursor
+    requires kept { Kept p.now c arrays.old.queue }
+    requires sound { Sound (state_of p.now c arrays.old) }
     requires limit_nonzero { 0 < limit }
     requires limit_bound { c.clock + limit ≤ last_clock }
     requires queued_nonzero { 0 < c.queued }
-    ensures { Stepped p result queue.new limit
-        (parts p c queue.old owed.old given.old done.old)
-        (parts p result queue.new owed.new given.new done.new) }
+    ensures { Stepped p.now result arrays.new.queue limit
+        (state_of p.now c arrays.old) (state_of p.now result arrays.new) }
 {
-    let leg = legs::next_leg(p, c, limit, queue, owed);
-    given_to(leg, owed, given);
-    let ready = leg.cursor;
+    let leg = c.next_leg(p, limit, &arrays.queue, &arrays.owed);
+    given_to(leg, &mut arrays.owed, &mut arrays.given);
     if leg.owed == leg.n {
-        return finished(p, ready, leg.task, leg.n, queue, done);
+        return finished(p, leg, &mut arrays.queue, &mut arrays.done);
     }
-    legs::served(p, ready, leg.n)
+    leg.cursor.served(p, leg.n)
 }
 
 // Ticks as far as the limit where nothing is open, and else the next leg.
-pub fn step(
-    p: Setup,
-    c: Cursor,
-    limit: u32,
-    queue: &mut [u8; 32],
-    owed: &mut [u32; 32],
-    given: &mut [u32; 32],
-    done: &mut [u32; 32],
-) -> Cursor
-    requires kept { Kept p c queue.old }
-    requires sound { Sound (parts p c queue.old owed.old given.old done.old) }
+pub fn step(p: &Setup, c: Cursor, limit: u32, arrays: &mut Arrays) -> Cursor
+    requires kept { Kept p.now c arrays.old.queue }
+    requires sound { Sound (state_of p.now c arrays.old) }
     requires limit_nonzero { 0 < limit }
     requires limit_bound { c.clock + limit ≤ last_clock }
-    ensures { Stepped p result queue.new limit
-        (parts p c queue.old owed.old given.old done.old)
-        (parts p result queue.new owed.new given.new done.new) }
+    ensures { Stepped p.now result arrays.new.queue limit
+        (state_of p.now c arrays.old) (state_of p.now result arrays.new) }
 {
     if c.queued == 0 {
-        return legs::rested(c, limit);
-    }
-    // With a branch of its own priority has no turn to look for: a step takes 22 instructions and not 55.
-    if p.policy == 1 {
-        return give_leg(p, c, limit, queue, owed, given, done);
+        return c.rested(limit);
     }
     // Nearly all steps under round robin give a whole slice to a task that is owed more. Judged first and apart, such a
-    // step takes 36 instructions and not 49.
-    if legs::slice_due(p, c, limit) {
-        let leg = legs::next_leg(p, c, p.slice, queue, owed);
+    // step takes 29 instructions and not 37.
+    if c.slice_due(p, limit) {
+        let leg = c.next_leg(p, p.slice, &arrays.queue, &arrays.owed);
         if leg.n < leg.owed {
-            given_to(leg, owed, given);
-            return legs::served(p, leg.cursor, leg.n);
+            given_to(leg, &mut arrays.owed, &mut arrays.given);
+            return leg.cursor.served(p, leg.n);
         }
     }
-    give_leg(p, c, limit, queue, owed, given, done)
+    give_leg(p, c, limit, arrays)
 }

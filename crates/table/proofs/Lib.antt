@@ -1,3 +1,3 @@
+pub mod Numbers
 pub mod Answering
-pub mod Columns
 pub mod Unique

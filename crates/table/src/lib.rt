@@ -1,89 +1,121 @@
 // The table run over columns: rows requested in order on a fresh run, and then a drain.
+// That columns fit their setup is asked between the functions here: the two come together in one call.
 #![tactic(auto)]
 
-ghost use Rattle.std.specs.Prelude.{◌<◌, length};
-ghost use Rattle.rule.specs.Setups.{asked};
-ghost use Rattle.laws.specs.Rows.{Tabled};
+ghost use Rattle.std.specs.Prelude.{◌≡◌, ◌≤◌, ◌<◌, length};
+ghost use Rattle.requests.specs.Columns.{ColumnsTabled};
+ghost use Rattle.setups.specs.Judging.{asked_by};
+ghost use Rattle.table.specs.Numbers.{table_refusal_number, table_refusal_place};
 ghost use Rattle.table.specs.Answers.{AnswersTable};
 
+use requests::{ColumnRefusal, Columns};
+use rows::RowRefusal;
 use rule::Setup;
+use setups::{Asked, SetupRefusal};
 
-// The end; or a refusal with its number, and the row from 1 where a row is at fault, else 0.
-#[derive(Clone, Copy)]
-pub enum TableAnswer {
-    Finished(u32),
-    Refused(u32, u32),
+// Why a table is refused: by its setup, by its columns, or at a row.
+#[derive(Clone, Copy, Debug, PartialEq, Eq)]
+pub enum TableRefusal {
+    Setup(SetupRefusal),
+    Columns(ColumnRefusal),
+    Row(RowRefusal),
 }
 
-// The rows of an accepted setup and of columns that fit, with notes for each row and one more.
-fn run_noted(
-    setup: Setup,
-    times: &[u32],
-    tasks: &[u32],
-    amounts: &[u32],
-    noted: &mut [u32],
-    res: &mut [u32],
-) -> TableAnswer
-    requires tabled { Tabled setup (length times.now) (length tasks.now) (length amounts.now) (length res.old) }
-    requires times_in_bounds { length times.now < length noted.old }
-    ensures { AnswersTable setup times.now tasks.now amounts.now
-        res.old result res.new }
-{
-    let ran = rows::run_rows(setup, times, tasks, amounts, noted);
-    if ran.refusal != 0 {
-        return TableAnswer::Refused(ran.refusal, ran.end);
+impl TableRefusal {
+    // The refusal's number.
+    pub fn number(self) -> u32
+        ensures { result ≡ table_refusal_number self }
+    {
+        match self {
+            TableRefusal::Setup(refusal) => refusal.into(),
+            TableRefusal::Columns(refusal) => refusal.into(),
+            TableRefusal::Row(at) => at.refusal.into(),
+        }
     }
-    let last = ran.last;
-    let done = ran.done;
-    rows::put_result(tasks, last, done, noted, res);
-    TableAnswer::Finished(ran.end)
+
+    // The row, counted from 1, where a row is at fault; else 0.
+    pub fn place(self) -> u32
+        ensures { result ≡ table_refusal_place self }
+    {
+        match self {
+            TableRefusal::Setup(_) => 0,
+            TableRefusal::Columns(_) => 0,
+            TableRefusal::Row(at) => at.row,
+        }
+    }
+}
+
+impl From<SetupRefusal> for TableRefusal {
+    ghost use Rattle.table.specs.declared.TableRefusal.TheVariants.{Setup};
+
+    ghost from_gives = { λ refusal e. e ≡ Setup refusal };
+
+    fn from(refusal: SetupRefusal) -> TableRefusal {
+        TableRefusal::Setup(refusal)
+    }
+}
+
+impl From<ColumnRefusal> for TableRefusal {
+    ghost use Rattle.table.specs.declared.TableRefusal.TheVariants.{Columns};
+
+    ghost from_gives = { λ refusal e. e ≡ Columns refusal };
+
+    fn from(refusal: ColumnRefusal) -> TableRefusal {
+        TableRefusal::Columns(refusal)
+    }
+}
+
+impl From<RowRefusal> for TableRefusal {
+    ghost use Rattle.table.specs.declared.TableRefusal.TheVariants.{Row};
+
+    ghost from_gives = { λ refusal e. e ≡ Row refusal };
+
+    fn from(refusal: RowRefusal) -> TableRefusal {
+        TableRefusal::Row(refusal)
+    }
+}
+
+// The rows of an accepted setup and of columns that fit, with this many notes: one for each row and one more.
+fn run_with<const NOTES: usize>(
+    setup: Setup,
+    columns: Columns<'_>,
+    res: &mut [u32],
+) -> Result<u32, TableRefusal>
+    requires tabled { ColumnsTabled setup columns (length res.old) }
+    requires noted { length columns.times.now < NOTES }
+    requires few { NOTES ≤ 1_025 }
+    ensures { AnswersTable setup columns.entry res.old result res.new }
+{
+    let mut noted = [0; NOTES];
+    let ran = rows::run_rows(setup, columns, &mut noted)?;
+    rows::put_result(columns.tasks, &ran, &noted, res);
+    Ok(ran.end)
 }
 
 // The rows of an accepted setup and of columns that fit.
-fn run_table(
-    setup: Setup,
-    times: &[u32],
-    tasks: &[u32],
-    amounts: &[u32],
-    res: &mut [u32],
-) -> TableAnswer
-    requires { Tabled setup (length times.now) (length tasks.now) (length amounts.now) (length res.old) }
-    ensures { AnswersTable setup times.now tasks.now amounts.now
-        res.old result res.new }
+fn run_table(setup: Setup, columns: Columns<'_>, res: &mut [u32]) -> Result<u32, TableRefusal>
+    requires { ColumnsTabled setup columns (length res.old) }
+    ensures { AnswersTable setup columns.entry res.old result res.new }
 {
-    // To clear the notes for 1,024 rows takes 4,000 instructions, as many as 20 rows: short tables have shorter ones.
-    if times.len() < 65 {
-        let mut few = [0u32; 65];
-        return run_noted(setup, times, tasks, amounts, &mut few, res);
+    // The notes are in fixed memory, and to clear those for 1,024 rows takes 4,000 instructions, as many as 20 rows: short tables have shorter ones.
+    if columns.times.len() < 65 {
+        run_with::<65>(setup, columns, res)
+    } else {
+        run_with::<1025>(setup, columns, res)
     }
-    let mut noted = [0u32; 1025];
-    run_noted(setup, times, tasks, amounts, &mut noted, res)
 }
 
 // The table run: each row's completion in the result column, and the end; or a refusal, and the column as it was. Any
 // numbers and any lengths are taken.
-pub fn table(
-    policy: u32,
-    count: u32,
-    slice: u32,
-    priorities: &[u8],
-    times: &[u32],
-    tasks: &[u32],
-    amounts: &[u32],
-    res: &mut [u32],
-) -> TableAnswer
-    ensures { AnswersTable (asked policy count slice priorities.now)
-        times.now tasks.now amounts.now
-        res.old result res.new }
+pub fn table(wanted: Asked<'_>, columns: Columns<'_>, res: &mut [u32]) -> Result<u32, TableRefusal>
+    ensures { AnswersTable (asked_by wanted.entry) columns.entry res.old result res.new }
 {
-    let judged = setups::judged_setup(policy, count, slice, priorities);
-    let wrong = judged.refusal;
-    if wrong != 0 {
-        return TableAnswer::Refused(wrong, 0);
-    }
-    let misfit = requests::column_refusal(times.len(), tasks.len(), amounts.len(), res.len());
-    if misfit != 0 {
-        return TableAnswer::Refused(misfit, 0);
-    }
-    run_table(judged.setup, times, tasks, amounts, res)
+    let setup = setups::judged_setup(wanted)?;
+    requests::column_refusal(
+        columns.times.len(),
+        columns.tasks.len(),
+        columns.amounts.len(),
+        res.len(),
+    )?;
+    run_table(setup, columns, res)
 }

@@ -1,11 +1,11 @@
--- The laws of walks at the run. In order: the answers as plain data; what calls by value return; `reads`, a reading
--- of a run that is lent, over the reading by value; `moves`, a call on a run that is lent by `&mut`, over the call by
--- value; `lends`, plain parameters above such a call. Assumes nothing.
+-- The laws of walks at the run. In order: plain data; `reads`, a reading of a run that is lent, over the reading by
+-- value; `moves`, a call on a run that is lent by `&mut`, over the call by value; `lends`, plain parameters above such a
+-- call. Assumes nothing.
 use Prim.Native.Nat.{ℕ}
-use mathlib.Core.Path.{◌≡◌, refl}
-use mathlib.Core.List.{List}
+use mathlib.Core.Path.{◌≡◌, refl, sym, subst}
+use mathlib.Core.List.{[], ◌∷◌, List}
 use seplogic.Ra.Ura.{Ura}
-use mir.Syntax.{Callee as Name}
+use mir.Syntax.{Callee as Name, Sym}
 use base.Logic.{SProp}
 use prog.Wp.{Closed}
 use prog.Model.{Model}
@@ -13,6 +13,7 @@ use prog.Routine.{Routine, Env}
 use types.Logic.{Logic}
 use contract.Monad.{fact}
 use contract.Running.{Running, tables}
+use denote.Laws.{Is}
 use denote.Struct.Laws as LL
 use denote.Triple.Clauses.{closing}
 use denote.Triple.Spec.{Meets}
@@ -24,26 +25,9 @@ use Rattle.rule.specs.contracts.Run as T
 use Rattle.rule.proofs.Run.TheLaws as T'
 use Rattle.rule.specs.contracts.Setup as P
 use Rattle.rule.proofs.Setup.TheLaws as P'
-use Rattle.replay.specs.Answers.{call_number_lem}
-use Rattle.replay.specs.declared.calls.CallAnswer.{CallAnswer}
-use Rattle.replay.specs.declared.calls.Moved.{Moved}
-use Rattle.replay.specs.contracts.calls.CallAnswer as C
-use Rattle.replay.proofs.calls.CallAnswer.TheLaws as C'
-use Rattle.replay.specs.contracts.start.SetupAnswer as B
-use Rattle.replay.proofs.start.SetupAnswer.TheLaws as B'
-use Rattle.replay.specs.contracts.start.Start as F
-use Rattle.replay.proofs.start.Start.TheLaws as F'
-use Rattle.readings.specs.contracts.TaskTicks as K
-use Rattle.readings.proofs.TaskTicks.TheLaws as K'
-use Rattle.readings.specs.contracts.Completion as E
-use Rattle.readings.proofs.Completion.TheLaws as E'
-use Rattle.readings.specs.contracts.Next as N
-use Rattle.readings.proofs.Next.TheLaws as N'
-use Rattle.replay.specs.contracts.calls.Moved as D
-use Rattle.replay.proofs.calls.Moved.TheLaws as D'
-use Rattle.walk_laws.proofs.Answered.{Answered}
+use Rattle.walk_laws.proofs.Answered.{Answered, both, both_types}
 use Rattle.walk_laws.proofs.Contracts.{ByValue, Lent, shared, shared_clauses}
-use Rattle.walk_laws.proofs.Data.{Data, struct, enum}
+use Rattle.walk_laws.proofs.Data.{Data, struct}
 use Rattle.walk_laws.proofs.Parameters.{Values}
 use Rattle.walk_laws.proofs.InPlace as in_place
 use Rattle.walk_laws.proofs.Peek as peek
@@ -51,59 +35,8 @@ use Rattle.walk_laws.proofs.Through as through
 
 -- ---- plain data
 
-abbrev pub call_answer_lem : Data
-call_answer_lem = enum C.the_type C'.the_laws C'.the_plain tt (λ x. tt) (λ x f. refl)
-
-abbrev pub task_ticks : Data
-task_ticks = enum K.the_type K'.the_laws K'.the_plain tt (λ x. tt) (λ x f. refl)
-
-abbrev pub completion : Data
-completion = enum E.the_type E'.the_laws E'.the_plain tt (λ x. tt) (λ x f. refl)
-
-abbrev pub next : Data
-next = enum N.the_type N'.the_laws N'.the_plain tt (λ x. tt) (λ x f. refl)
-
-abbrev pub moved : Data
-moved = struct D.the_type D'.the_laws D'.the_plain (λ x. tt) (λ x f. refl)
-
 abbrev pub setup_given : Data
 setup_given = struct P.the_type P'.the_laws P'.the_plain (λ x. tt) (λ x f. refl)
-
-abbrev pub setup_answer_lem : Data
-setup_answer_lem = enum B.the_type B'.the_laws B'.the_plain tt (λ x. tt) (λ x f. refl)
-
-abbrev pub started : Data
-started = struct F.the_type F'.the_laws F'.the_plain (λ x. tt) (λ x f. refl)
-
--- ---- what calls by value return
-
-abbrev pub moved_parts : Answered T.the_type T'.the_laws
-moved_parts =
-    record {
-      S = call_answer_lem;
-      D = D.the_row;
-      ν = (D.the_type).name;
-      answer = λ d. d.answer;
-      next = λ d. d.run;
-      tells = LL.tells D.the_type D'.the_laws;
-      answer_is = λ d is. (LL.owed D.the_type D'.the_laws d _ is).0;
-      next_is_lem = λ d is. (LL.owed D.the_type D'.the_laws d _ is).1.0;
-      typed = λ 𝓛 d is. ((LL.lawful D.the_type D'.the_laws 𝓛).typed d _ is).0;
-    }
-
-abbrev pub started_parts : Answered T.the_type T'.the_laws
-started_parts =
-    record {
-      S = setup_answer_lem;
-      D = F.the_row;
-      ν = (F.the_type).name;
-      answer = λ d. d.answer;
-      next = λ d. d.run;
-      tells = LL.tells F.the_type F'.the_laws;
-      answer_is = λ d is. (LL.owed F.the_type F'.the_laws d _ is).0;
-      next_is_lem = λ d is. (LL.owed F.the_type F'.the_laws d _ is).1.0;
-      typed = λ 𝓛 d is. ((LL.lawful F.the_type F'.the_laws 𝓛).typed d _ is).0;
-    }
 
 -- ---- readings
 
@@ -143,18 +76,29 @@ module _ (ps : List Data) (P : Answered T.the_type T'.the_laws) (number : P.S.ty
     moves =
         in_place.thin T.the_type T'.the_laws ps P Moves Leaves T'.the_plain 𝓛 𝓜 𝓡 need (λ h a d e. e) γ name g
 
--- plain parameters above a call c on a run that is lent
-module _ (ps : List Data) (c : Values 0 tt ps → Call) where
-  abbrev Said : Run → Values 0 tt ps → Moved → Type 0
-  Said h a d = Promised h (c a) (call_number_lem d.answer) d.run
+-- Plain parameters above a call c on a run that is lent, whatever its answer S: what is given back is made of the answer
+-- and the run.
+module _ (ps : List Data) (c : Values 0 tt ps → Call) (S D : Data) (ν : Sym)
+    (make : S.type.Denot → Run → D.type.Denot) (number : S.type.Denot → ℕ)
+    (answer : D.type.Denot → S.type.Denot) (run : D.type.Denot → Run)
+    (answer_is : (s : S.type.Denot) (h : Run) → answer (make s h) ≡ s)
+    (run_is : (s : S.type.Denot) (h : Run) → run (make s h) ≡ h) where
+  abbrev Said : Run → Values 0 tt ps → D.type.Denot → Type 0
+  Said h a d = Promised h (c a) (number (answer d)) (run d)
 
-  abbrev Claim : Run → Values 0 tt ps → CallAnswer → Run → Type 0
-  Claim h a s h' = Promised h (c a) (call_number_lem s) h'
+  abbrev Claim : Run → Values 0 tt ps → S.type.Denot → Run → Type 0
+  Claim h a s h' = Promised h (c a) (number s) h'
 
-  abbrev made : CallAnswer → Run → Moved
-  made s h = record { answer = s; run = h }
+  claims : (h : Run) (a : Values 0 tt ps) (s : S.type.Denot) (h' : Run) → Claim h a s h' → Said h a (make s h')
+  claims h a s h' e =
+      subst (λ (x : Run). Promised h (c a) (number (answer (make s h'))) x) (sym (run_is s h'))
+      (subst (λ (x : S.type.Denot). Promised h (c a) (number x) h') (sym (answer_is s h')) e)
 
-  module _ {M : Type 1} {𝓤 : Ura M} (𝓛 : Logic 𝓤) (𝓜 : Model 𝓤 𝓛.H) (𝓡 : Running 𝓤 𝓛.H 𝓜)
+  module _ (mir_is : D.mir ≡ both_types T.the_type ν S)
+      (val_is : (s : S.type.Denot) (h : Run) → D.val (make s h) ≡ both T.the_type T'.the_laws S s h)
+      (make_is : (s : S.type.Denot) (h : Run) → Is S.type s (S.val s ∷ []) → Is T.the_row h (LL.vals T.the_type T'.the_laws h)
+      → Is D.type (make s h) (D.val (make s h) ∷ []))
+      {M : Type 1} {𝓤 : Ura M} (𝓛 : Logic 𝓤) (𝓜 : Model 𝓤 𝓛.H) (𝓡 : Running 𝓤 𝓛.H 𝓜)
       (γ : Env) (name g : Name) where
     open 𝓛 use {H}
 
@@ -162,12 +106,11 @@ module _ (ps : List Data) (c : Values 0 tt ps → Call) where
     need h a = fact 𝓤 (MadeRun h)
 
     pub lends : Closed 𝓤 H (tables 𝓤 H 𝓜 𝓡 γ).C (tables 𝓤 H 𝓜 𝓡 γ).Λ name
-        (through.function T.the_type T'.the_laws ps call_answer_lem moved (D.the_type).name made Said Claim g)
+        (through.function T.the_type T'.the_laws ps S D ν make Said Claim g)
         → (r : Routine) → γ g ≡ r
-        → Triple 𝓤 (𝓡.run r) (Lent T.the_row ps call_answer_lem.type 𝓤 need Claim 𝓛)
-        → Triple 𝓤 (𝓡.run (γ name)) (ByValue T.the_row ps moved.type 𝓤 need Said 𝓛)
+        → Triple 𝓤 (𝓡.run r) (Lent T.the_row ps S.type 𝓤 need Claim 𝓛)
+        → Triple 𝓤 (𝓡.run (γ name)) (ByValue T.the_row ps D.type 𝓤 need Said 𝓛)
     lends =
-        through.thin T.the_type T'.the_laws ps call_answer_lem moved (D.the_type).name made Said Claim
-        T'.the_plain (λ x. tt) (λ x f. refl) refl (λ s h. refl)
-        (λ s h isS isR. LL.owes D.the_type D'.the_laws (made s h) (isS, (isR, tt)))
-        𝓛 𝓜 𝓡 need (λ h a s h' e. e) γ name g
+        through.thin T.the_type T'.the_laws ps S D ν make Said Claim
+        T'.the_plain (λ x. tt) (λ x f. refl) mir_is val_is make_is
+        𝓛 𝓜 𝓡 need claims γ name g

@@ -1,7 +1,7 @@
 -- No two different outcomes satisfy the promise of a function on a run that is lent, and a refusal leaves the very
--- run. The calls promise what those of `replay` do, so their theorems are cited; readings have theirs in
--- Rattle.readings.proofs.Unique, and leave the run by their type. In order: calls; setting up anew. Assumes nothing.
-use mathlib.Core.Path.{◌≡◌, refl, sym, ◌∙◌}
+-- run. In order: calls; setting up anew. Assumes nothing.
+use Rattle.std.specs.Prelude.{◌≡◌, Result, Ok}
+use Rattle.std.proofs.Common.{refl, sym, ◌∙◌}
 use Rattle.lists.proofs.Testing.{equal-or}
 use Rattle.rule.specs.Setups.{setup_refusal_lem}
 use Rattle.rule.specs.State.{fresh}
@@ -10,33 +10,31 @@ use Rattle.rule.specs.View.{MadeRun, Promised, Determined}
 use Rattle.rule.specs.declared.Setup.{Setup}
 use Rattle.rule.specs.declared.Run.{Run}
 use Rattle.laws.proofs.Unique.{shows_determined, promised_refused}
-use Rattle.replay.specs.Answers.{setup_number_lem, call_number_lem}
-use Rattle.replay.specs.declared.start.SetupAnswer.{SetupAnswer}
-use Rattle.replay.specs.declared.start.SetupAnswer.TheVariants as setup
-use Rattle.replay.specs.declared.calls.CallAnswer.{CallAnswer}
-use Rattle.replay.specs.declared.calls.CallAnswer.TheVariants as call
-use Rattle.replay.proofs.Unique.{setup_number_determined, call_number_determined, call_determined}
+use Rattle.setups.specs.Numbers.{setup_number}
+use Rattle.setups.specs.declared.SetupRefusal.{SetupRefusal}
+use Rattle.setups.proofs.Numbers.{setup_number_determined}
+use Rattle.requests.specs.Numbers.{call_number}
+use Rattle.requests.specs.declared.CallRefusal.{CallRefusal}
+use Rattle.requests.proofs.Numbers.{call_number_determined}
 use Rattle.tracker.specs.Restarted.{Restarted}
 
 -- ---- calls
 
 pub call_in_determined : (before : Run) (c : Call)
-    → Determined (λ (o : CallAnswer × Run). Promised before c (call_number_lem o.0) o.1)
+    → Determined (λ (o : Result (Unit {0}) CallRefusal × Run). Promised before c (call_number o.0) o.1)
 call_in_determined before c x y a b =
-    let one = call_determined before c (record { answer = x.0; run = x.1 })
-    (record { answer = y.0; run = y.1 }) a b in
-    λ i. ((one i).answer, (one i).run)
+    λ i. (call_number_determined _ x.0 y.0 a.answer b.answer i, shows_determined _ x.1 y.1 a.run b.run i)
 
-pub call_in_refused : (before : Run) (c : Call) (answer : CallAnswer) (after : Run) → MadeRun before
-    → Promised before c (call_number_lem answer) after → (answer ≡ call.Accepted → ⊥) → after ≡ before
+pub call_in_refused : (before : Run) (c : Call) (answer : Result (Unit {0}) CallRefusal) (after : Run) → MadeRun before
+    → Promised before c (call_number answer) after → (answer ≡ Ok tt → ⊥) → after ≡ before
 call_in_refused before c answer after m p w =
-    promised_refused before c (call_number_lem answer) after m.tidy p
-    (λ z. w (call_number_determined 0 answer call.Accepted z refl))
+    promised_refused before c (call_number answer) after m.tidy p
+    (λ z. w (call_number_determined 0 answer (Ok tt) z refl))
 
 -- ---- setting up anew
 
 pub setup_in_determined : (before : Run) (p : Setup)
-    → Determined (λ (o : SetupAnswer × Run). Restarted before p (setup_number_lem o.0) o.1)
+    → Determined (λ (o : Result (Unit {0}) SetupRefusal × Run). Restarted before p (setup_number o.0) o.1)
 setup_in_determined before p x y a b = λ i. (answers i, runs i)
   where
     answers : x.0 ≡ y.0
@@ -48,7 +46,7 @@ setup_in_determined before p x y a b = λ i. (answers i, runs i)
         (λ e. shows_determined (fresh p) x.1 y.1 (a.anew e) (b.anew e))
         (λ w. a.kept w ∙ sym (b.kept w))
 
-pub setup_in_refused : (before : Run) (p : Setup) (answer : SetupAnswer) (after : Run)
-    → Restarted before p (setup_number_lem answer) after → (answer ≡ setup.Accepted → ⊥) → after ≡ before
+pub setup_in_refused : (before : Run) (p : Setup) (answer : Result (Unit {0}) SetupRefusal) (after : Run)
+    → Restarted before p (setup_number answer) after → (answer ≡ Ok tt → ⊥) → after ≡ before
 setup_in_refused before p answer after h w =
-    h.kept (λ e. w (setup_number_determined 0 answer setup.Accepted (h.answer ∙ e) refl))
+    h.kept (λ e. w (setup_number_determined 0 answer (Ok tt) (h.answer ∙ e) refl))

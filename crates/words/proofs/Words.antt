@@ -1,10 +1,11 @@
--- Laws of `word`, `words` and `check`. In order: a word of a part is a word of the whole; a word past the end; a word
--- that is 0; the sum of the words, one word more; a sum kept modulo 2 ^ 32 is the check. Assumes nothing.
-use Rattle.std.proofs.Common.{◌≡◌, ℕ, zero, suc, ◌+◌, ◌*◌, ◌%◌, ◌<◌, ◌≤◌, List, length, take, drop, ap, ◌∙◌, add_assoc, suc-add, arith, get_or-drop, get_or-take}
+-- Laws of `word`, `words` and `check`. In order: a word of a part is a word of the whole; a word past the end; the
+-- sum of the words, one word more; a sum kept modulo 2 ^ 32 is the check. Assumes nothing.
+use Rattle.std.proofs.Common.{◌≡◌, ℕ, zero, suc, ◌+◌, ◌*◌, ◌%◌, ◌<◌, ◌≤◌, List, length, take, drop, ap, ◌∙◌}
+use Rattle.std.proofs.Common.{add_assoc, suc-add, arith, ◌-◌, length-drop, get_or-drop, get_or-take}
 use lib.ListN.{get_or-eq_default}
-use lib.Seq.{slice}
-use Rattle.lists.specs.Lists.{at, total, zeros}
-use Rattle.lists.proofs.Zeros.{zeros_slice_same}
+use lib.Seq.{take-length}
+use Rattle.std.specs.List.{slice_range}
+use Rattle.lists.specs.Lists.{at, total}
 use Rattle.words.specs.Words.{word, words, check}
 
 -- ---- parts
@@ -23,6 +24,12 @@ word_take n s i h =
       get_or-take n s (i + 3) 0 (omega arith),
     )
 
+-- the bytes from i on
+pub word_rest : (s rest : List ℕ) (i : ℕ) → rest ≡ slice_range s i (length s) → word rest 0 ≡ word s i
+word_rest s rest i e =
+    let l : length (drop i s) ≡ length s - i = length-drop i s in
+    rw (e, ← l, take-length (drop i s)) (word_drop i s 0 ∙ ap (word s) (omega arith))
+
 -- ---- past the end
 
 -- a word of which three bytes, two, one or none stand in the list
@@ -39,18 +46,6 @@ module _ (s : List ℕ) (i : ℕ) where
 
   pub word_none : length s ≤ i → word s i ≡ 0
   word_none h = omega (arith, word_one (omega arith), get_or-eq_default s 0 {n = i} h)
-
--- ---- zeros
-
--- a word that is 0 does not tell whether a stretch is zero
-pub zeros_word : (t : ℕ) (s : List ℕ) (i : ℕ) → t ≤ length s → i + 4 ≤ t → word s i ≡ 0
-    → zeros (slice i t s) ≡ zeros (slice (i + 4) t s)
-unfolding word
-zeros_word t s i whole inside none =
-    zeros_slice_same t s i whole (omega arith) (omega arith)
-    ∙ (simp add_assoc at (zeros_slice_same t s (i + 1) whole (omega arith) (omega arith)))
-    ∙ (simp add_assoc at (zeros_slice_same t s (i + 2) whole (omega arith) (omega arith)))
-    ∙ (simp add_assoc at (zeros_slice_same t s (i + 3) whole (omega arith) (omega arith)))
 
 -- ---- sums
 

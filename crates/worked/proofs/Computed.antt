@@ -9,7 +9,8 @@ use Rattle.rule.specs.Setups.{slice_fits_lem, bytes_fit_lem, setup_refusal_lem}
 use Rattle.rule.specs.State.{State}
 use Rattle.rule.specs.Tick.{before, best, chosen, overdue, head_back, turn, used_more_lem, give, rest, serve}
 use Rattle.rule.specs.Tick.{tick_on, tick, ticks}
-use Rattle.rule.specs.Calls.{moved, drained, opened, Call, effect, request_refusal, advance_refusal, refusal, call, calls}
+use Rattle.rule.specs.Calls.{moved, drained, opened, Call, effect, request_refusal, advance_refusal, refusal, call}
+use Rattle.rule.specs.Calls.{calls}
 use Rattle.rule.specs.Table.{Outcome, completion, completions, unless_refused, outcome_from, rows}
 use Rattle.judging.specs.Blocks.{length_fits, check_fits, place_fits, setup_in_lem, records_to, count_fits, unused_zero}
 use Rattle.judging.specs.Blocks.{layout_fits}

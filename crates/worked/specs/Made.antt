@@ -1,8 +1,9 @@
 -- What a case is, and blocks made from words: case A of document 01, and others. Assumes nothing.
-use Rattle.std.specs.Prelude.{ℕ, zero, suc, ◌+◌, ◌*◌, ◌-◌, ◌/◌, ◌%◌, List, [], ◌∷◌, ◌++◌, length, take, set, replicate}
+use Rattle.std.specs.Prelude.{ℕ, zero, suc, ◌+◌, ◌*◌, ◌-◌, ◌/◌, ◌%◌, List, [], ◌∷◌, ◌++◌, length, take, set}
+use Rattle.std.specs.Prelude.{replicate, Option}
 use Rattle.rule.specs.declared.Setup.{Setup}
 use Rattle.judging.specs.Log.{Verdict, accepted, refused, judged}
-use Rattle.logs.specs.declared.Found.{Found}
+use Rattle.rule.specs.declared.Request.{Request}
 use Rattle.places.specs.declared.Taken.{Taken}
 
 pub data Said : Type 0 where
@@ -10,8 +11,8 @@ pub data Said : Type 0 where
   bytes : List ℕ → Said
   verdict : Verdict → Said
   setup : Setup → Said
-  row : Found → Said
-  steps : List Found → Said
+  row : Option Request → Said
+  steps : List (Option Request) → Said
   taken : Taken → Said
 
 -- what the definitions give, beside what is said of it

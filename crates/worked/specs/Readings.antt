@@ -1,14 +1,12 @@
 -- What is read of logs: words, setups, rows, record blocks, and the reader's steps. Assumes nothing.
-use Rattle.std.specs.Prelude.{ℕ, List, [], ◌∷◌, ◌++◌, take, replicate}
+use Rattle.std.specs.Prelude.{ℕ, List, [], ◌∷◌, ◌++◌, take, replicate, Option, Some, None}
 use Rattle.std.specs.Borrow.{Bor}
 use Rattle.words.specs.Words.{word}
 use Rattle.rule.specs.Setups.{asked}
 use Rattle.rule.specs.declared.Setup.{Setup}
 use Rattle.judging.specs.Log.{Verdict, accepted, refused}
 use Rattle.logs.specs.Records.{setup_of_lem, column, found, block_asked, stretch}
-use Rattle.logs.specs.declared.Found.{Found}
-use Rattle.logs.specs.declared.Found.TheVariants.{Row, End}
-use Rattle.logs.specs.declared.Record.{Record}
+use Rattle.rule.specs.declared.Request.{Request}
 use Rattle.places.specs.Places.{taken_at, setup_at_lem}
 use Rattle.places.specs.declared.Taken.{Taken}
 use Rattle.reader.specs.Reading.{reader_on, setup_by, first_found, nexts}
@@ -16,7 +14,7 @@ use Rattle.reader.specs.declared.Reader.{Reader}
 use Rattle.worked.specs.Made.{number, bytes, verdict, setup, row, steps, taken, Case, reads}
 use Rattle.worked.specs.Made.{as_bytes, little, made, head, case_a, wrong, empty}
 
-abbrev recorded : ℕ → ℕ → ℕ → Record
+abbrev recorded : ℕ → ℕ → ℕ → Request
 recorded time task amount = record { time = time; task = task; amount = amount }
 
 -- priority, three tasks
@@ -62,40 +60,40 @@ readings =
 
 -- ---- rows, by number and by a reader: "after the last it says that there is none, and stays"
 
-abbrev finds : List ℕ → ℕ → Found → Case
+abbrev finds : List ℕ → ℕ → Option Request → Case
 finds log i f = record { found = row (found log i); said = row f }
 
-abbrev walks : Reader → ℕ → List Found → Case
+abbrev walks : Reader → ℕ → List (Option Request) → Case
 walks r n fs = record { found = steps (nexts r n); said = steps fs }
 
 -- what a reader finds from the opening on
-abbrev opens : List ℕ → ℕ → List Found → Case
+abbrev opens : List ℕ → ℕ → List (Option Request) → Case
 opens log n fs = walks (reader_on (lent log)) n fs
 
 -- and from record r of block b on
-abbrev goes_on : List ℕ → ℕ → ℕ → ℕ → List Found → Case
+abbrev goes_on : List ℕ → ℕ → ℕ → ℕ → List (Option Request) → Case
 goes_on log b r n fs = walks (record { log = lent log; block = b; «record» = r }) n fs
 
 -- "knows its next record": one step, and the place after
 abbrev takes : List ℕ → ℕ → ℕ → Taken → Case
 takes log b r t = record { found = taken (taken_at log b r); said = taken t }
 
-abbrev at : Found → ℕ → ℕ → Taken
+abbrev at : Option Request → ℕ → ℕ → Taken
 at f b r = record { found = f; block = b; «record» = r }
 
 abbrev pub rows_read : List Case
 rows_read =
-    finds case_a 0 (Row (recorded 0 0 5)) ∷ finds case_a 1 (Row (recorded 2 1 2)) ∷ finds case_a 2 End
-    ∷ finds case_a 3 End ∷ finds head 0 End
-    ∷ opens case_a 4 (Row (recorded 0 0 5) ∷ Row (recorded 2 1 2) ∷ End ∷ End ∷ [])
-    ∷ opens head 2 (End ∷ End ∷ []) ∷ opens (head ++ wrong) 2 (End ∷ End ∷ [])
+    finds case_a 0 (Some (recorded 0 0 5)) ∷ finds case_a 1 (Some (recorded 2 1 2)) ∷ finds case_a 2 None
+    ∷ finds case_a 3 None ∷ finds head 0 None
+    ∷ opens case_a 4 (Some (recorded 0 0 5) ∷ Some (recorded 2 1 2) ∷ None ∷ None ∷ [])
+    ∷ opens head 2 (None ∷ None ∷ []) ∷ opens (head ++ wrong) 2 (None ∷ None ∷ [])
     ∷ goes_on long 1 39 5
-    (Row (recorded 0 0 0) ∷ Row (recorded 11 12 13) ∷ Row (recorded 16_909_060 15 16) ∷ End ∷ End ∷ [])
-    ∷ takes case_a 1 1 (at (Row (recorded 2 1 2)) 1 2) ∷ takes case_a 1 2 (at End 1 2)
-    ∷ takes case_a 1 3 (at End 1 3) ∷ takes case_a 0 0 (at End 0 0)
-    ∷ takes long 1 40 (at (Row (recorded 11 12 13)) 2 0) ∷ takes long 2 1 (at End 2 1)
-    ∷ record { found = row (first_found case_a); said = row (Row (recorded 0 0 5)) }
-    ∷ record { found = row (first_found (head ++ wrong)); said = row End }
+    (Some (recorded 0 0 0) ∷ Some (recorded 11 12 13) ∷ Some (recorded 16_909_060 15 16) ∷ None ∷ None ∷ [])
+    ∷ takes case_a 1 1 (at (Some (recorded 2 1 2)) 1 2) ∷ takes case_a 1 2 (at None 1 2)
+    ∷ takes case_a 1 3 (at None 1 3) ∷ takes case_a 0 0 (at None 0 0)
+    ∷ takes long 1 40 (at (Some (recorded 11 12 13)) 2 0) ∷ takes long 2 1 (at None 2 1)
+    ∷ record { found = row (first_found case_a); said = row (Some (recorded 0 0 5)) }
+    ∷ record { found = row (first_found (head ++ wrong)); said = row None }
     ∷ []
 
 -- ---- 34, "a record block asked for that the log does not have (block 0 included)", after the whole log was judged

@@ -2,10 +2,9 @@
 use Rattle.engine.proofs.Assembly.{run_tasks, apart}
 use Rattle.engine.proofs.cursor_of.Goals as goal
 
-pub head_of-head-requires : goal.head_of-head-requires
-head_of-head-requires c =
-    record { queue_len = c.requires.tidy.whole; tasks = run_tasks c.args.run c.requires.tidy c.requires.sound; n_bound = c.requires.tidy.fits }
+pub head_of-requires-clause-tasks : goal.head_of-requires-clause-tasks
+head_of-requires-clause-tasks c = run_tasks c.args.run.now c.requires.tidy c.requires.sound
 
 pub returns : goal.returns
 returns c =
-    apart c.args.run c.requires.tidy _ c.head_of-head.ensures
+    apart c.args.run.now c.requires.tidy _ c.head_of.ensures

@@ -1,14 +1,10 @@
 -- Invariant: what is done next from here on is done next from the start on (Waits). Measure: the ticks left.
-use Prim.Native.Nat.{ℕ}
-use mathlib.Core.List.{List}
 use Rattle.lists.specs.Lists.{total}
-use Rattle.laws.specs.Sound.{Sound}
-use Rattle.legs.specs.Parts.{parts}
-use Rattle.engine.proofs.Waits.{Waits}
+use Rattle.engine.proofs.Waits.{Waiting}
 use Rattle.engine.proofs.soonest.Given as goal
 
-abbrev pub invariant-loop-p : goal.invariant-loop-p
-invariant-loop-p l = (g d : List ℕ) → Sound (parts l.p l.initial.c l.queue l.initial.left g d) → Waits (parts l.p l.initial.c l.queue l.initial.left g d) l.p l.c l.queue l.left d
+abbrev pub invariant-loop-left : goal.invariant-loop-left
+invariant-loop-left l = Waiting l.p l.initial.c l.c l.queue l.initial.left l.left
 
-abbrev pub decreases-loop-p : goal.decreases-loop-p
-decreases-loop-p l = total l.left
+abbrev pub decreases-loop-left : goal.decreases-loop-left
+decreases-loop-left l = total l.left

@@ -1,10 +1,9 @@
 -- The reader stands at a place that steps gave, and each record leaves fewer.
-use Rattle.places.specs.Places.{Stands}
-use Rattle.example_reader.proofs.Steps.{left}
+use Rattle.reader.specs.Reading.{Standing, rows_left}
 use Rattle.example_reader.proofs.records.Given as goal
 
-abbrev pub invariant-loop-taken : goal.invariant-loop-taken
-invariant-loop-taken g l = Stands l.fn.log l.block l.«record»
+abbrev pub invariant-loop : goal.invariant-loop
+invariant-loop g l = Standing l.reader
 
-abbrev pub decreases-loop-taken : goal.decreases-loop-taken
-decreases-loop-taken g l = left l.fn.log l.block l.«record»
+abbrev pub decreases-loop : goal.decreases-loop
+decreases-loop g l = rows_left l.reader

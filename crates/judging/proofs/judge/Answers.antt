@@ -1,36 +1,25 @@
 -- `judging::judge` meets its contract: the length, then the blocks. Assumes nothing.
-use native.Mathlib.Omega.{arith}
-use borrow.Author.Tests.{eq-eqb, ne_eqb, le-leb, lt-leb}
-use Prim.Native.Nat.{◌/◌, ◌%◌}
-use lib.ListN.{length}
-use Rattle.judging.specs.Blocks.{length_fits}
-use Rattle.judging.specs.Log.{judged}
+use Rattle.std.specs.Prelude.{ℕ, ◌≡◌, true, false, List}
+use Rattle.std.proofs.Common.{sym, ◌∙◌}
+use Rattle.judging.specs.Blocks.{blocks, length_fits}
+use Rattle.judging.specs.Log.{judged, judged_from, refused}
+use Rattle.judging.proofs.Accepted.{fits_sized}
 use Rattle.judging.proofs.judge.Goals as goal
 
-pub returns-then-log-ne0 : goal.returns-then-log-ne0
-unfolding judged length_fits
-returns-then-log-ne0 c =
-    let n = length c.args.log.now in simp (ne_eqb (n % 512) 0 c.if-log-ne0.true)
+judged_fits : (log : List ℕ) → length_fits log ≡ true → judged_from log 0 (blocks log) ≡ judged log
+unfolding judged
+judged_fits log e = rw e
 
-pub returns-then-blocks-eq0 : goal.returns-then-blocks-eq0
-unfolding judged length_fits
-returns-then-blocks-eq0 c =
-    let n = length c.args.log.now in
-    simp (eq-eqb (n % 512) 0 c.if-log-ne0.false, lt-leb 1 (n / 512) (omega arith))
+judged_misfits : (log : List ℕ) → length_fits log ≡ false → refused 30 0 ≡ judged log
+unfolding judged
+judged_misfits log e = rw e
 
-pub returns-then-blocks-gt26 : goal.returns-then-blocks-gt26
-unfolding judged length_fits
-returns-then-blocks-gt26 c =
-    let n = length c.args.log.now in
-    simp (eq-eqb (n % 512) 0 (omega arith), le-leb 1 (n / 512) (omega arith), lt-leb (n / 512) 26 (omega arith))
+pub returns-then-not-length_right : goal.returns-then-not-length_right
+returns-then-not-length_right c = judged_misfits _ (sym c.if-not-length_right.ensures)
+
+pub judge_blocks-requires : goal.judge_blocks-requires
+judge_blocks-requires c =
+    let s = fits_sized _ (sym c.if-not-length_right.ensures) in (s.whole, s.some, s.most)
 
 pub returns : goal.returns
-unfolding judged length_fits
-returns c =
-    let n = length c.args.log.now in
-    simp (
-      eq-eqb (n % 512) 0 (omega arith),
-      le-leb 1 (n / 512) (omega arith),
-      le-leb (n / 512) 26 (omega arith),
-    )
-    c.judge_blocks.ensures
+returns c = c.judge_blocks.ensures ∙ judged_fits _ (sym c.if-not-length_right.ensures)

@@ -1,4 +1,4 @@
--- `places::setup_at` meets its contract: past block 0 the log reads, and `logs::setup_of` gives its setup. Assumes
+-- `places::setup_at` meets its contract: past block 0 the log reads, and `Log::setup` gives its setup. Assumes
 -- nothing.
 use native.Mathlib.Omega.{arith}
 use Prim.Native.Nat.{ℕ, ◌<◌, ◌≤◌}
@@ -20,12 +20,12 @@ setup_at_none log b h = rw (lt-leb 1 b h)
 
 pub returns-then-block-eq0 : goal.returns-then-block-eq0
 returns-then-block-eq0 c =
-    setup_at_none _ _ (omega (arith, c.if-block-eq0.true))
+    c.plain.ensures ∙ setup_at_none _ _ (omega (arith, c.if-block-eq0.true))
 
-pub setup_of-requires : goal.setup_of-requires
-setup_of-requires c =
-    (c.requires (omega (arith, c.if-block-eq0.false))).reads
+pub invariant_of-setup : goal.invariant_of-setup
+invariant_of-setup c =
+    record { reads = (c.requires (omega (arith, c.if-block-eq0.false))).reads }
 
 pub returns : goal.returns
 returns c =
-    c.setup_of.ensures ∙ setup_at_reads _ _ (omega (arith, c.if-block-eq0.false))
+    c.setup.ensures ∙ setup_at_reads _ _ (omega (arith, c.if-block-eq0.false))

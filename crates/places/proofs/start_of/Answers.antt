@@ -3,8 +3,8 @@ use mathlib.Core.Path.{ap}
 use Rattle.places.specs.Places.{first_block}
 use Rattle.places.proofs.start_of.Goals as goal
 
-pub returns-in-Accepted : goal.returns-in-Accepted
-returns-in-Accepted c = record { verdict = c.judge-verdict.ensures; block = ap first_block c.in-Accepted.ensures }
+pub returns-in-Ok : goal.returns-in-Ok
+returns-in-Ok c = record { verdict = c.judge-verdict.ensures; block = ap first_block c.in-Ok.ensures }
 
-pub returns-in-Refused : goal.returns-in-Refused
-returns-in-Refused c = record { verdict = c.judge-verdict.ensures; block = ap first_block c.in-Refused.ensures }
+pub returns-in-Err : goal.returns-in-Err
+returns-in-Err c = record { verdict = c.judge-verdict.ensures; block = ap first_block c.in-Err.ensures }

@@ -1,6 +1,7 @@
 -- The buffer's front is the reader's, what `report` puts is printed for it and so for all that the reader had, and it is
 -- written.
 use Rattle.std.proofs.Common.{rules, Option, None, Some, IfSome, take, ◌≡◌, ℕ, List, ap, ◌∙◌, subst}
+use Rattle.std.proofs.lemmas.Result.{on_ok_weaker}
 use Rattle.std.specs.Io.KnownBytes.{Appends}
 use Rattle.report.specs.Report.{report_text}
 use Rattle.print.proofs.Whole.{enough}
@@ -16,5 +17,6 @@ written (Some bytes) held after front put room fits read printed wrote =
 
 pub returns : goal.returns
 returns g c =
-    written _ _ _ _ _ _ (search rules) c.in_ok-n.ensures.bytes c.report-m.ensures.wrote.text
-    c.in_ok-write_all.ensures.bytes
+    on_ok_weaker _
+    (written _ _ _ _ _ _ (search rules) c.in_ok-n.ensures.bytes c.report-m.ensures.wrote.text)
+    c.write_all.ensures.bytes

@@ -26,19 +26,19 @@ returns-then-run-eq0 c =
     let sound = made_sound _ c.requires.made in
     sym ((next_nothing _ sound).1 (none_owed _ sound (queue_none _ _ c.if-run-eq0.true)))
 
-pub cursor_of-c-requires : goal.cursor_of-c-requires
-cursor_of-c-requires c =
+pub cursor_of-cursor-requires : goal.cursor_of-cursor-requires
+cursor_of-cursor-requires c =
     record { tidy = c.requires.tidy; sound = made_sound _ c.requires.made }
 
 pub soonest-next-requires : goal.soonest-next-requires
 soonest-next-requires c =
-    let some = positive _ c.if-run-eq0.false in record { kept = c.cursor_of-c.ensures.kept; owing = record { given = _; done = _; sound = apart_sound _ _ (made_sound _ c.requires.made) c.cursor_of-c.ensures }; queued_nonzero = rw c.cursor_of-c.ensures.queued some; owed_bound = apart_room _ _ c.cursor_of-c.ensures (made_within _ c.requires.made) }
+    let some = positive _ c.if-run-eq0.false in record { kept = c.cursor_of-cursor.ensures.kept; owing = record { given = _; done = _; sound = apart_sound _ _ (made_sound _ c.requires.made) c.cursor_of-cursor.ensures }; queued_nonzero = rw c.cursor_of-cursor.ensures.queued some; owed_bound = apart_room _ _ c.cursor_of-cursor.ensures (made_within _ c.requires.made) }
 
 pub returns : goal.returns
 returns c =
     let sound = made_sound _ c.requires.made in
-    let run = c.args.run in
+    let run = c.args.run.now in
     let next = c.soonest-next.result in
     sym (done_next (view run) next.task next.time sound
-    (subst (λ (x : State). DoneNext x next.task next.time) c.cursor_of-c.ensures.shown
-    (c.soonest-next.ensures run.given run.done (apart_sound _ _ sound c.cursor_of-c.ensures))))
+    (subst (λ (x : State). DoneNext x next.task next.time) c.cursor_of-cursor.ensures.shown
+    (c.soonest-next.ensures run.given run.done (apart_sound _ _ sound c.cursor_of-cursor.ensures))))

@@ -7,16 +7,12 @@ use Rattle.judging.proofs.Unique.{refused_small}
 use Rattle.report.proofs.Logs.{refused_text}
 use Rattle.report.proofs.report.Goals as goal
 
-pub put_log-requires : goal.put_log-requires
-put_log-requires c =
-    sym c.in-Accepted.ensures
-
 pub overflow_cast-block : goal.overflow_cast-block
 overflow_cast-block c =
-    omega (arith, refused_small _ _ _ (sym c.in-Refused.ensures))
+    omega (arith, refused_small c.args.log.now _ _ (sym c.in-Err.ensures.verdict), c.block.ensures)
 
-pub returns-in-Refused : goal.returns-in-Refused
-returns-in-Refused c =
+pub returns-in-Err : goal.returns-in-Err
+returns-in-Err c =
     wrote_same_upto
-    (refused_text _ _ _ (sym c.in-Refused.ensures))
-    c.put_refused.ensures
+    (refused_text _ _ _ (sym c.in-Err.ensures.verdict))
+    (rw (c.number.ensures, c.block.ensures) at c.put_refused.ensures)

@@ -1,75 +1,48 @@
 -- A leg that finishes its task, or one that does not: each is a law of Stepped.
 use native.Mathlib.Omega.{arith}
 use mathlib.Core.Path.{sym, ◌∙◌}
-use Rattle.legs.proofs.Legs.{ready, kept_tasks, Leads, leg_known, leg_owed, leg_owes, leg_sliced, leg_time, leg_gives}
+use Rattle.legs.proofs.Legs.{ready, kept_tasks, leads, leg_known, leg_owed, leg_owes, leg_sliced, leg_time, leg_gives}
 use Rattle.legs.proofs.Legs.{leg_kept, leg_some}
 use Rattle.steps.proofs.Steps.{finished_stepped, served_stepped}
 use Rattle.steps.proofs.give_leg.Goals as goal
 
 pub next_leg-leg-requires : goal.next_leg-leg-requires
-next_leg-leg-requires c =
-    ready c.requires.kept c.requires.sound c.requires.queued_nonzero
+next_leg-leg-requires c = ready c.requires.kept c.requires.sound c.requires.queued_nonzero
 
 pub given_to-requires : goal.given_to-requires
 given_to-requires c =
-    let leads : let a = c.args in
-    Leads a.p a.c a.limit a.queue.now a.owed.now a.given.now a.done.now c.next_leg-leg.result = record {
-      kept = c.requires.kept;
-      sound = c.requires.sound;
-      some = c.requires.queued_nonzero;
-      pos = c.requires.limit_nonzero;
-      leg = c.next_leg-leg.ensures;
-    } in
-    record { task_bound = leg_known leads; n_bound = leg_owes leads; n_bound_2 = leg_gives leads c.requires.limit_bound }
+    let r = c.requires in
+    let L = leads r.kept r.sound r.queued_nonzero r.limit_nonzero c.next_leg-leg.ensures in
+    record { task_bound = leg_known L; n_bound = leg_owes L; n_bound_2 = leg_gives L r.limit_bound }
 
 pub finished-requires : goal.finished-requires
 finished-requires c =
-    let leads : let a = c.args in
-    Leads a.p a.c a.limit a.queue.now a.owed.now a.given.now a.done.now c.next_leg-leg.result = record {
-      kept = c.requires.kept;
-      sound = c.requires.sound;
-      some = c.requires.queued_nonzero;
-      pos = c.requires.limit_nonzero;
-      leg = c.next_leg-leg.ensures;
-    } in
-    let L = leads in record { n_bound = leg_time L c.requires.limit_bound; kept = leg_kept L; queued_nonzero = leg_some L; tasks = kept_tasks L.kept L.sound; task_bound = leg_known L }
+    let r = c.requires in
+    let L = leads r.kept r.sound r.queued_nonzero r.limit_nonzero c.next_leg-leg.ensures in
+    record {
+      n_bound = leg_time L r.limit_bound;
+      kept = leg_kept L;
+      queued_nonzero = leg_some L;
+      tasks = kept_tasks r.kept r.sound;
+      task_bound = leg_known L;
+    }
 
 pub returns-then-leg : goal.returns-then-leg
 returns-then-leg c =
-    let leads : let a = c.args in
-    Leads a.p a.c a.limit a.queue.now a.owed.now a.given.now a.done.now c.next_leg-leg.result = record {
-      kept = c.requires.kept;
-      sound = c.requires.sound;
-      some = c.requires.queued_nonzero;
-      pos = c.requires.limit_nonzero;
-      leg = c.next_leg-leg.ensures;
-    } in
-    finished_stepped leads c.finished.ensures
-    (sym (leg_owed leads) ∙ c.if-leg.true)
-    c.given_to.ensures.owed_after
-    c.given_to.ensures.given_after
+    let r = c.requires in
+    let L = leads r.kept r.sound r.queued_nonzero r.limit_nonzero c.next_leg-leg.ensures in
+    finished_stepped L c.finished.ensures (sym (leg_owed L) ∙ c.if-leg.true)
+    c.given_to.ensures.owed_after c.given_to.ensures.given_after
 
 pub served-requires : goal.served-requires
 served-requires c =
-    let leads : let a = c.args in
-    Leads a.p a.c a.limit a.queue.now a.owed.now a.given.now a.done.now c.next_leg-leg.result = record {
-      kept = c.requires.kept;
-      sound = c.requires.sound;
-      some = c.requires.queued_nonzero;
-      pos = c.requires.limit_nonzero;
-      leg = c.next_leg-leg.ensures;
-    } in
-    record { n_bound = leg_time leads c.requires.limit_bound; room = leg_sliced leads }
+    let r = c.requires in
+    let L = leads r.kept r.sound r.queued_nonzero r.limit_nonzero c.next_leg-leg.ensures in
+    record { n_bound = leg_time L r.limit_bound; room = leg_sliced L }
 
 pub returns : goal.returns
 returns c =
-    let leads : let a = c.args in
-    Leads a.p a.c a.limit a.queue.now a.owed.now a.given.now a.done.now c.next_leg-leg.result = record {
-      kept = c.requires.kept;
-      sound = c.requires.sound;
-      some = c.requires.queued_nonzero;
-      pos = c.requires.limit_nonzero;
-      leg = c.next_leg-leg.ensures;
-    } in
-    served_stepped leads (omega (arith, leg_owed leads, leg_owes leads, c.if-leg.false))
+    let r = c.requires in
+    let L = leads r.kept r.sound r.queued_nonzero r.limit_nonzero c.next_leg-leg.ensures in
+    served_stepped L (omega (arith, leg_owed L, leg_owes L, c.if-leg.false))
     c.served.ensures c.given_to.ensures.owed_after c.given_to.ensures.given_after

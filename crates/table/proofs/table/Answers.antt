@@ -1,34 +1,24 @@
--- `table::table` meets its contract: refused by its setup, refused by its columns, or run. Assumes nothing.
-use mathlib.Core.Path.{◌≡◌, sym, ◌∙◌}
-use Rattle.rule.specs.Setups.{asked, setup_refusal_lem}
-use Rattle.rule.specs.declared.Setup.{Setup}
+-- `table::table` meets its contract: refused by its setup, refused by its columns, or run with the setup that was asked
+-- for (Answering).
+use mathlib.Core.Path.{sym, ap}
+use Rattle.std.specs.Result.{result_unwrap_or}
+use Rattle.rule.specs.Setups.{plain}
+use Rattle.setups.specs.Judging.{asked_by}
 use Rattle.setups.proofs.Judging.{judged_accepted}
-use Rattle.table.proofs.Columns.{table_misset, table_misfit, tabled_asked, table_asked}
+use Rattle.table.proofs.Answering.{table_misset, table_misfit, columns_tabled}
 use Rattle.table.proofs.table.Goals as goal
 
-pub returns-then-wrong-ne0 : goal.returns-then-wrong-ne0
-returns-then-wrong-ne0 c =
-    let wanted : Setup = asked c.args.policy c.args.count c.args.slice c.args.priorities.now in
-    table_misset wanted _ _ _ _ _ c.judged_setup-judged.ensures.number c.if-wrong-ne0.true
+pub returns-in_err-setup : goal.returns-in_err-setup
+returns-in_err-setup c = table_misset _ _ _ _ _ _ c.in_err-setup.ensures.number c.from_residual.ensures.1
 
-pub returns-then-misfit-ne0 : goal.returns-then-misfit-ne0
-returns-then-misfit-ne0 c =
-    let wanted : Setup = asked c.args.policy c.args.count c.args.slice c.args.priorities.now in
-    let setup_fits : setup_refusal_lem wanted ≡ 0 = sym c.judged_setup-judged.ensures.number ∙ c.if-wrong-ne0.false in
-    table_misfit wanted _ _ _ _ _ setup_fits c.column_refusal-misfit.ensures c.if-misfit-ne0.true
+pub returns-in_err-column_refusal : goal.returns-in_err-column_refusal
+returns-in_err-column_refusal c =
+    table_misfit _ _ _ _ _ (sym c.in_ok-setup.ensures.number) _ c.in_err-column_refusal.ensures
+    c.from_residual-in_err-column_refusal.ensures.1
 
 pub run_table-requires : goal.run_table-requires
 run_table-requires c =
-    let wanted : Setup = asked c.args.policy c.args.count c.args.slice c.args.priorities.now in
-    let setup_fits : setup_refusal_lem wanted ≡ 0 = sym c.judged_setup-judged.ensures.number ∙ c.if-wrong-ne0.false in
-    let setup_asked : c.judged_setup-judged.result.setup ≡ wanted = judged_accepted c.judged_setup-judged.ensures setup_fits in
-    let args = c.args in
-    tabled_asked _ args.times.now args.tasks.now args.amounts.now args.res.now setup_asked
-    setup_fits (sym c.column_refusal-misfit.ensures ∙ c.if-misfit-ne0.false)
-
-pub returns : goal.returns
-returns c =
-    let wanted : Setup = asked c.args.policy c.args.count c.args.slice c.args.priorities.now in
-    let setup_fits : setup_refusal_lem wanted ≡ 0 = sym c.judged_setup-judged.ensures.number ∙ c.if-wrong-ne0.false in
-    let setup_asked : c.judged_setup-judged.result.setup ≡ wanted = judged_accepted c.judged_setup-judged.ensures setup_fits in
-    table_asked _ _ _ _ _ setup_asked c.run_table.ensures
+    let fits = sym c.in_ok-setup.ensures.number in
+    let is_asked = ap (λ r. result_unwrap_or r plain) (judged_accepted c.in_ok-setup.ensures fits) in
+    rw is_asked
+    (columns_tabled (asked_by c.args.wanted) _ _ _ _ fits (sym c.in_ok-column_refusal.ensures))

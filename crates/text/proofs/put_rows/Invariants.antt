@@ -1,16 +1,9 @@
 -- `text::put_rows` meets its contract. The invariant: the lines of the first i rows stand there. Assumes nothing.
-use Prim.Native.Nat.{◌≤◌, ◌-◌, ◌+◌, ◌*◌}
-use mathlib.Core.Path.{◌≡◌}
-use lib.ListN.{length}
+use Prim.Native.Nat.{◌*◌}
 use Rattle.text.specs.Text.{row_lines}
-use Rattle.cells.specs.Writes.{Wrote}
+use Rattle.cells.specs.Pages.{Put}
 use Rattle.text.proofs.put_rows.Given as goal
 
 abbrev pub invariant-loop-i : goal.invariant-loop-i
-invariant-loop-i l = (l.i ≤ length l.tasks)
-    × (length l.out ≡ length l.initial.out)
-    × (l.p ≤ l.at + 55 * l.i)
-    × Wrote l.initial.out l.out l.at (row_lines l.tasks l.asked l.amounts l.done l.i) l.p
-
-abbrev pub decreases-loop-i : goal.decreases-loop-i
-decreases-loop-i l = length l.tasks - l.i
+invariant-loop-i l = Put (55 * l.i) l.initial.page l.page
+    (row_lines l.columns.tasks.now l.columns.times.now l.columns.amounts.now l.done l.i)

@@ -1,9 +1,9 @@
 -- `text::put_table` meets its contract: no text; or the header, the rows, the end. Assumes nothing.
 use native.Mathlib.Omega.{arith}
-use mathlib.Core.Path.{sym, ◌∙◌}
-use Rattle.cells.proofs.Writing.{wrote_nothing, wrote_then, wrote_same}
-use Rattle.text.specs.Text.{row_lines}
-use Rattle.text.specs.Inner.{Columns}
+use mathlib.Core.Path.{sym, ap, ◌∙◌}
+use lib.ListN.{length}
+use Rattle.cells.proofs.Writing.{wrote_nothing, wrote_same}
+use Rattle.cells.proofs.Pages.{put_then, puts_as, room_behind}
 use Rattle.text.proofs.Lines.{table_text_cells}
 use Rattle.text.proofs.Columns.{columns_fit_lem_lem, columns_text_fit, columns_text_other}
 use Rattle.text.proofs.put_table.Goals as goal
@@ -13,33 +13,28 @@ returns-then-not-columns_fit c =
     let other = sym c.if-not-columns_fit.ensures in
     record { wrote = wrote_same (sym (columns_text_other _ _ _ _ _ other)) (wrote_nothing _ 0); short = omega arith }
 
-pub put_rows-b-requires-clause-columns : goal.put_rows-b-requires-clause-columns
-put_rows-b-requires-clause-columns c = columns_fit_lem_lem _ _ _ _ (sym c.if-not-columns_fit.ensures)
+pub put_rows-requires-clause-fit : goal.put_rows-requires-clause-fit
+put_rows-requires-clause-fit c = columns_fit_lem_lem _ _ (sym c.if-not-columns_fit.ensures)
 
-pub put_rows-b-requires-clause-tasks_in_bounds : goal.put_rows-b-requires-clause-tasks_in_bounds
-put_rows-b-requires-clause-tasks_in_bounds c =
-    let f : Columns c.args.tasks.now c.args.asked.now c.args.amounts.now c.args.done.now
-    = columns_fit_lem_lem _ _ _ _ (sym c.if-not-columns_fit.ensures) in
-    omega (arith, f.few, c.put_all-a.ensures.place, c.put_all-a.ensures.same_length)
+pub put_rows-requires-clause-room : goal.put_rows-requires-clause-room
+put_rows-requires-clause-room c =
+    let f = columns_fit_lem_lem c.args.columns c.args.done.now (sym c.if-not-columns_fit.ensures) in
+    let page = c.new-page.ensures in
+    room_behind c.put_all.ensures _
+    (omega (arith, f.few, page.start, ap length page.same_bytes))
 
 pub put_named-requires : goal.put_named-requires
 put_named-requires c =
-    let f : Columns c.args.tasks.now c.args.asked.now c.args.amounts.now c.args.done.now
-    = columns_fit_lem_lem _ _ _ _ (sym c.if-not-columns_fit.ensures) in
-    let a = c.put_all-a.ensures in
-    let b = c.put_rows-b.ensures in
-    omega (arith, f.few, a.place, a.same_length, b.short, b.wrote.same_length)
+    let f = columns_fit_lem_lem c.args.columns c.args.done.now (sym c.if-not-columns_fit.ensures) in
+    let page = c.new-page.ensures in
+    room_behind (put_then c.put_all.ensures c.put_rows.ensures) _
+    (omega (arith, f.few, page.start, ap length page.same_bytes))
 
 pub returns : goal.returns
 returns c =
-    let f : Columns c.args.tasks.now c.args.asked.now c.args.amounts.now c.args.done.now
-    = columns_fit_lem_lem _ _ _ _ (sym c.if-not-columns_fit.ensures) in
-    let a = c.put_all-a.ensures in
-    let b = c.put_rows-b.ensures in
-    let e = c.put_named.ensures in
-    record {
-      wrote =
-          wrote_same (table_text_cells _ _ _ _ _ ∙ sym (columns_text_fit _ _ _ _ _ f))
-          (wrote_then (wrote_then {t = row_lines _ _ _ _ _} a b.wrote) e.wrote);
-      short = omega (arith, f.few, a.place, b.short, e.short);
-    }
+    let f = columns_fit_lem_lem c.args.columns c.args.done.now (sym c.if-not-columns_fit.ensures) in
+    let page = c.new-page.ensures in
+    let text = put_then (put_then c.put_all.ensures c.put_rows.ensures) c.put_named.ensures in
+    puts_as text page.same_bytes page.start
+    (table_text_cells _ _ _ _ _ ∙ sym (columns_text_fit _ _ _ _ _ f.few f.times_too f.amounts_too f.done_too))
+    (omega (arith, f.few))

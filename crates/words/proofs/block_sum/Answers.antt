@@ -12,8 +12,8 @@ loop-k-init c =
 
 pub loop-k-preserved : goal.loop-k-preserved
 loop-k-preserved c =
-    (search rules, sum_more _ _ _ _ c.loop-k.invariant.1 (search rules))
+    sum_more _ _ _ _ c.loop-k.invariant (search rules)
 
 pub returns : goal.returns
 returns c =
-    sum_check _ _ _ c.loop-k.invariant.1 (omega arith)
+    sum_check _ _ _ c.loop-k.invariant (omega arith)

@@ -1,26 +1,18 @@
 -- `judging::search::judge_blocks` meets its contract. Outside, what is judged from the first block on is what is
--- judged from this one on; inside, the bytes from the first unused one on are as zero as those from this one on.
--- Assumes nothing.
-use Prim.Native.Nat.{ℕ, ◌≤◌, ◌<◌, ◌+◌, ◌*◌, ◌-◌}
-use native.Mathlib.Omega.{arith}
-use native.Mathlib.Nat.{sub-zero}
-use borrow.Author.Rules.{rules}
-use mathlib.Core.Path.{◌≡◌, sym, ap, ◌∙◌}
-use mathlib.Core.Bool.{Bool, not, ◌||◌}
-use mathlib.Core.List.{List, [], ◌∷◌}
-use lib.Dec.{eqb}
-use lib.ListN.{length, take, drop}
-use lib.Seq.{slice}
+-- judged from this one on; inside, the bytes are as zero as those from this one on. Assumes nothing.
+use Rattle.std.specs.Prelude.{ℕ, ◌≡◌, ◌+◌, ◌*◌, ◌-◌, ◌≤◌, ◌<◌, ◌||◌, true, cond, List, length, get_or, take, drop, eqb}
+use Rattle.std.proofs.Common.{arith, rules, refl, sym, ap, ◌∙◌}
+use Rattle.std.proofs.Math.Nat.{sub-zero}
+use Rattle.std.proofs.Math.Seq.{slice}
 use Rattle.lists.specs.Lists.{zeros}
-use Rattle.lists.proofs.Zeros.{zeros_slice_same, zeros_slice_other, zeros_slice_past}
-use Rattle.words.specs.Words.{word, check}
-use Rattle.rule.specs.Refusal.{refuse, first}
-use Rattle.judging.specs.Blocks.{count, records_to, count_fits, first_unused_lem}
-use Rattle.judging.specs.Log.{refused, block_refusal_lem, judged_from}
-use Rattle.judging.proofs.Blocks.{records_zero, records_full}
-use Rattle.judging.proofs.Judging.{part_block, length_part, Before, head_refusal, refusal_head, head_counts}
+use Rattle.lists.proofs.Zeros.{zeros_same, zeros_other, zeros_past}
+use Rattle.rule.specs.Setups.{setup_refusal_lem}
+use Rattle.judging.specs.Blocks.{setup_in_lem, count, records_to, count_fits, first_unused_lem}
+use Rattle.judging.specs.Log.{refused, accepted, at_block, head_refusal, block_refusal_lem, judged_from}
+use Rattle.judging.proofs.Blocks.{records_zero, records_full, unused_from}
+use Rattle.judging.proofs.Judging.{part_block, length_part, Before, refusal_head, head_counts}
 use Rattle.judging.proofs.Judging.{refusal_byte, refusal_setup, judged_good, judged_refused}
-use Rattle.judging.proofs.Judging.{judged_end}
+use Rattle.judging.proofs.Judging.{judged_end, at_block_none, at_block_some, at_block_is}
 use Rattle.judging.proofs.search.judge_blocks.Goals as goal
 
 -- where block i is begun, its bytes are these
@@ -32,7 +24,7 @@ record Begun (log : List ℕ) (n i : ℕ) : Type 0 where
   start : judged_from log 0 n ≡ judged_from log i (n - i)
   inside : i < n
   before : Before log n i
-  whole : 508 ≤ length (part_at log i)
+  whole : length (part_at log i) ≡ 512
 
 begun : (log : List ℕ) (n i : ℕ) → 512 * n ≡ length log → i < n → judged_from log 0 n ≡ judged_from log i (n - i)
     → (i < n → records_to log (i - 1) ≡ 41 * (i - 1)) → Begun log n i
@@ -40,104 +32,104 @@ begun log n i size h e full = record {
   start = e;
   inside = h;
   before = record { size = omega arith; full = full h };
-  whole = omega (arith, length_part log i (omega arith));
+  whole = length_part log i (omega arith);
 }
 
--- it is refused, or not
-module _ (log : List ℕ) (n i : ℕ) (b : Begun log n i) where
-  stopped : (k : ℕ) → block_refusal_lem log i ≡ k → (k ≡ 0 → ⊥) → refused k i ≡ judged_from log 0 n
-  stopped k e z = sym (b.start ∙ judged_refused log n i k b.inside e z)
+module _ {log : List ℕ} {n i : ℕ} (b : Begun log n i) where
+  -- it is refused, or not
+  stopped : {k m j : ℕ} → block_refusal_lem log i ≡ k → refused m j ≡ at_block i k → refused m j ≡ judged_from log 0 n
+  stopped {k} e v =
+      let z : k ≡ 0 → ⊥ = at_block_some i k v in
+      v ∙ at_block_is i k z ∙ sym (b.start ∙ judged_refused log n i k b.inside e z)
 
   passed : block_refusal_lem log i ≡ 0 → judged_from log 0 n ≡ judged_from log (i + 1) (n - (i + 1))
   passed e = b.start ∙ judged_good log n i b.inside e
 
--- its numbers are known
-head_is : (log : List ℕ) (n i : ℕ) {w s p h : ℕ} {r : Bool} → w ≡ word (part_at log i) 508
-    → s ≡ check (part_at log i) → p ≡ word (part_at log i) 0
-    → r ≡ (eqb i 0 || count_fits n i (41 * (i - 1)) (count (part_at log i)))
-    → h ≡ first (refuse 31 (not (eqb w s)) ∷ refuse 32 (not (eqb p i)) ∷ refuse 33 (not r) ∷ [])
-    → h ≡ head_refusal n i (part_at log i)
-head_is log n i ew es ep er eh = rw (← er, ← ep, ← es, ← ew) eh
+  -- its head is refused, or not
+  head_stopped : {m j : ℕ} → refused m j ≡ at_block i (head_refusal n i (part_at log i))
+      → refused m j ≡ judged_from log 0 n
+  head_stopped v = stopped (refusal_head b.before (part_block log i) (at_block_some i _ v)) v
 
--- its bytes are known, from a first unused one on
-unused : (log : List ℕ) (i p at : ℕ) {f : ℕ} → f ≡ first_unused_lem i (part_at log i)
-    → zeros (slice f 508 (part_at log i)) ≡ zeros (slice p 508 (part_at log i))
-    → zeros (slice p 508 (part_at log i)) ≡ zeros (slice at 508 (part_at log i))
-    → zeros (slice (first_unused_lem i (part_at log i)) 508 (part_at log i)) ≡ zeros (slice at 508 (part_at log i))
-unused log i p at e u v = ap (λ (f : ℕ). zeros (slice f 508 (part_at log i))) (sym e) ∙ u ∙ v
+  module _ (v : accepted ≡ at_block i (head_refusal n i (part_at log i))) where
+    counted : (eqb i 0 || count_fits n i (41 * (i - 1)) (count (part_at log i))) ≡ true
+    counted = head_counts b.before (part_block log i) (at_block_none i _ v)
 
-pub search-init : goal.search-init
-search-init c = (search rules, rw sub-zero, λ h. records_zero _)
+    unused_fits : (length (part_at log i) ≡ 512) × (first_unused_lem i (part_at log i) ≤ 508)
+    unused_fits = (b.whole, unused_from n i (41 * (i - 1)) (part_at log i) counted)
 
-pub bytes-preserved : goal.bytes-preserved
-bytes-preserved c =
-    c.bytes.invariant
-    ∙ zeros_slice_same 508 (part_at c.args.log.now c.search.block) c.bytes.at
-    (omega (arith, length_part c.args.log.now c.search.block (omega arith)))
-    c.bytes-test.true c.if-part-at-ne0.false
+    more_full : i + 1 < n → records_to log (i + 1 - 1) ≡ 41 * (i + 1 - 1)
+    more_full h = records_full log n i (part_block log i) b.before.full counted h
 
-pub search-preserved : goal.search-preserved
-search-preserved c =
-    let log = c.args.log.now in
-    let n = c.args.blocks in
-    let i = c.search.block in
-    let b : Begun log n i =
-    begun log n i c.requires.0 c.if-blocks-block.false c.search.invariant.1 c.search.invariant.2 in
-    let h = head_is log n i c.word_at.ensures c.block_sum.ensures c.word_at-in-search.ensures c.count_right.ensures
-    c.first_wrong-head.ensures in
-    let headed : head_refusal n i (part_at log i) ≡ 0 = sym h ∙ c.if-head-ne0.false in
-    let e : block_refusal_lem log i ≡ 0 =
-    refusal_setup b.before (part_block log i) headed
-    (unused log i _ _ c.first_unused.ensures c.past_zeros-at.ensures c.bytes.invariant
-    ∙ zeros_slice_past 508 (part_at log i) c.bytes.at b.whole c.bytes-test.false)
-    ∙ sym c.setup_refusal_in-setup.ensures ∙ c.if-setup-ne0.false in (
-      search rules,
-      passed log n i b e,
-      λ g. records_full log n i (part_block log i) b.before.full (head_counts b.before (part_block log i) headed) g,
-    )
+    -- the bytes that must be zero are as zero as those from k on of these
+    module _ (items : List ℕ) (k : ℕ) {unused : List ℕ}
+        (u : unused ≡ slice (first_unused_lem i (part_at log i)) 508 (part_at log i))
+        (p : zeros items ≡ zeros unused) (e : zeros items ≡ zeros (drop k items)) where
+      from_k : zeros (slice (first_unused_lem i (part_at log i)) 508 (part_at log i)) ≡ zeros (drop k items)
+      from_k = ap zeros (sym u) ∙ sym p ∙ e
 
-pub returns-then-blocks-block : goal.returns-then-blocks-block
-returns-then-blocks-block c = sym (c.search.invariant.1 ∙ judged_end _ _ _ c.if-blocks-block.true)
+      byte_stopped : k < length items → (get_or items k 0 ≡ 0 → ⊥) → refused 33 i ≡ judged_from log 0 n
+      byte_stopped h z =
+          stopped
+          (refusal_byte b.before (part_block log i) (at_block_none i _ v) (from_k ∙ zeros_other items k h z))
+          refl
 
-pub returns-then-head-ne0 : goal.returns-then-head-ne0
-returns-then-head-ne0 c =
-    let log = c.args.log.now in
-    let n = c.args.blocks in
-    let i = c.search.block in
-    let b : Begun log n i =
-    begun log n i c.requires.0 c.if-blocks-block.false c.search.invariant.1 c.search.invariant.2 in
-    let h = head_is log n i c.word_at.ensures c.block_sum.ensures c.word_at-in-search.ensures c.count_right.ensures
-    c.first_wrong-head.ensures in
-    stopped log n i b c.first_wrong-head.result
-    (refusal_head b.before (part_block log i) (λ z. c.if-head-ne0.true (h ∙ z)) ∙ sym h) c.if-head-ne0.true
+      setup_left : length items ≤ k
+          → block_refusal_lem log i ≡ cond (eqb i 0) (setup_refusal_lem (setup_in_lem (part_at log i))) 0
+      setup_left h =
+          refusal_setup b.before (part_block log i) (at_block_none i _ v) (from_k ∙ zeros_past items k h)
 
-pub returns-then-part-at-ne0 : goal.returns-then-part-at-ne0
-returns-then-part-at-ne0 c =
-    let log = c.args.log.now in
-    let n = c.args.blocks in
-    let i = c.search.block in
-    let b : Begun log n i =
-    begun log n i c.requires.0 c.if-blocks-block.false c.search.invariant.1 c.search.invariant.2 in
-    let h = head_is log n i c.word_at.ensures c.block_sum.ensures c.word_at-in-search.ensures c.count_right.ensures
-    c.first_wrong-head.ensures in
-    stopped log n i b 33
-    (refusal_byte b.before (part_block log i) (cc h)
-    (unused log i _ _ c.first_unused.ensures c.past_zeros-at.ensures c.bytes.invariant
-    ∙ zeros_slice_other 508 (part_at log i) c.bytes.at b.whole c.bytes-test.true c.if-part-at-ne0.true))
-    (λ x. omega arith)
+pub loop-block-init : goal.loop-block-init
+loop-block-init c = (rw sub-zero, λ h. records_zero _)
 
-pub returns-then-setup-ne0 : goal.returns-then-setup-ne0
-returns-then-setup-ne0 c =
-    let log = c.args.log.now in
-    let n = c.args.blocks in
-    let i = c.search.block in
-    let b : Begun log n i =
-    begun log n i c.requires.0 c.if-blocks-block.false c.search.invariant.1 c.search.invariant.2 in
-    let h = head_is log n i c.word_at.ensures c.block_sum.ensures c.word_at-in-search.ensures c.count_right.ensures
-    c.first_wrong-head.ensures in
-    stopped log n i b c.setup_refusal_in-setup.result
-    (refusal_setup b.before (part_block log i) (sym h ∙ c.if-head-ne0.false)
-    (unused log i _ _ c.first_unused.ensures c.past_zeros-at.ensures c.bytes.invariant
-    ∙ zeros_slice_past 508 (part_at log i) c.bytes.at b.whole c.bytes-test.false)
-    ∙ sym c.setup_refusal_in-setup.ensures)
-    c.if-setup-ne0.true
+pub judge_head-requires : goal.judge_head-requires
+judge_head-requires c =
+    let b = begun c.args.log.now c.args.blocks c.loop-block.block c.requires.0 c.loop-block-test.true
+    c.loop-block.invariant.0 c.loop-block.invariant.1 in
+    (b.whole, c.loop-block-test.true, c.requires.2)
+
+pub returns-in_err-judge_head : goal.returns-in_err-judge_head
+returns-in_err-judge_head c =
+    let b = begun c.args.log.now c.args.blocks c.loop-block.block c.requires.0 c.loop-block-test.true
+    c.loop-block.invariant.0 c.loop-block.invariant.1 in
+    let e = head_stopped b c.in_err-judge_head.ensures in
+    search rules
+
+pub unused-requires : goal.unused-requires
+unused-requires c =
+    let b = begun c.args.log.now c.args.blocks c.loop-block.block c.requires.0 c.loop-block-test.true
+    c.loop-block.invariant.0 c.loop-block.invariant.1 in
+    unused_fits b c.in_ok-judge_head.ensures
+
+pub loop-byte-preserved : goal.loop-byte-preserved
+loop-byte-preserved c =
+    c.loop-byte.invariant ∙ zeros_same _ _ c.loop-byte-test.true c.if-byte-ne0.false
+
+pub returns-then-byte-ne0 : goal.returns-then-byte-ne0
+returns-then-byte-ne0 c =
+    let b = begun c.args.log.now c.args.blocks c.loop-block.block c.requires.0 c.loop-block-test.true
+    c.loop-block.invariant.0 c.loop-block.invariant.1 in
+    byte_stopped b c.in_ok-judge_head.ensures c.past_zeros-byte-items.result.now c.loop-byte.byte-index
+    c.unused.ensures c.past_zeros-byte-items.ensures c.loop-byte.invariant
+    c.loop-byte-test.true c.if-byte-ne0.true
+
+pub returns-in_err-judge_setup : goal.returns-in_err-judge_setup
+returns-in_err-judge_setup c =
+    let b = begun c.args.log.now c.args.blocks c.loop-block.block c.requires.0 c.loop-block-test.true
+    c.loop-block.invariant.0 c.loop-block.invariant.1 in
+    let left = setup_left b c.in_ok-judge_head.ensures c.past_zeros-byte-items.result.now c.loop-byte.byte-index
+    c.unused.ensures c.past_zeros-byte-items.ensures
+    c.loop-byte.invariant c.loop-byte-test.false in
+    let e = stopped b left c.in_err-judge_setup.ensures in
+    search rules
+
+pub loop-block-preserved : goal.loop-block-preserved
+loop-block-preserved c =
+    let b = begun c.args.log.now c.args.blocks c.loop-block.block c.requires.0 c.loop-block-test.true
+    c.loop-block.invariant.0 c.loop-block.invariant.1 in
+    let left = setup_left b c.in_ok-judge_head.ensures c.past_zeros-byte-items.result.now c.loop-byte.byte-index
+    c.unused.ensures c.past_zeros-byte-items.ensures
+    c.loop-byte.invariant c.loop-byte-test.false in
+    (passed b (left ∙ at_block_none _ _ c.in_ok-judge_setup.ensures), more_full b c.in_ok-judge_head.ensures)
+
+pub returns-after-loop-block : goal.returns-after-loop-block
+returns-after-loop-block c = sym (c.loop-block.invariant.0 ∙ judged_end _ _ _ c.loop-block-test.false)

@@ -1,29 +1,28 @@
--- `judging::search::past_zeros` meets its contract: a word that is 0 is four bytes of the stretch. Assumes nothing.
-use native.Mathlib.Omega.{arith}
-use native.Mathlib.Nat.{add_assoc}
-use mathlib.Core.Path.{refl, sym, ◌∙◌}
-use Rattle.words.proofs.Words.{zeros_word}
+-- `judging::search::past_zeros` meets its contract: what is passed is zero. Assumes nothing.
+use Rattle.std.specs.Prelude.{ℕ, ◌≡◌, false, not, List, [], ◌∷◌, take, drop, eqb}
+use Rattle.std.proofs.Common.{sym, ap, ◌∙◌}
+use Rattle.std.proofs.lemmas.Bool.{false≢true}
+use Rattle.std.proofs.lemmas.List.{take-append-drop}
+use lib.Pointwise.{pointwise, bytes_decides}
+use Rattle.lists.specs.Lists.{zeros}
+use Rattle.lists.proofs.Testing.{tested}
 use Rattle.judging.proofs.search.past_zeros.Goals as goal
 
-pub loop-at-preserved : goal.loop-at-preserved
-loop-at-preserved c =
-    c.loop-at.invariant
-    ∙ zeros_word 508 _ _ (omega arith) (omega arith) (sym c.word_at.ensures ∙ c.if-word_at-ne0.false)
-    ∙ (simp add_assoc at
-    (zeros_word 508 _ _ (omega arith) (omega arith) (sym c.word_at-in-loop-at.ensures ∙ c.if-word_at-ne0-2.false)))
+abbrev eight_zeros : List ℕ
+eight_zeros = 0 ∷ 0 ∷ 0 ∷ 0 ∷ 0 ∷ 0 ∷ 0 ∷ 0 ∷ []
 
-pub loop-at-init : goal.loop-at-init
-loop-at-init c =
-    refl
+zeros_eight : (s eight after : List ℕ) → eight ≡ take 8 s → after ≡ drop 8 s
+    → false ≡ not (pointwise eqb eight eight_zeros) → zeros after ≡ zeros s
+unfolding zeros
+zeros_eight s eight after e a h =
+    let z : eight ≡ eight_zeros =
+    tested (pointwise eqb eight eight_zeros)
+    (bytes_decides eight eight_zeros).0
+    (λ f. absurd (false≢true (rw f at h))) in
+    let t : take 8 s ≡ eight_zeros = sym e ∙ z in
+    sym (ap zeros (sym (take-append-drop 8 s)) ∙ rw (t, a))
 
-pub returns-then-word_at-ne0 : goal.returns-then-word_at-ne0
-returns-then-word_at-ne0 c =
-    c.loop-at.invariant
-
-pub returns-then-word_at-ne0-2 : goal.returns-then-word_at-ne0-2
-returns-then-word_at-ne0-2 c =
-    c.loop-at.invariant
-
-pub returns : goal.returns
-returns c =
-    c.loop-at.invariant
+pub loop-eight-preserved : goal.loop-eight-preserved
+loop-eight-preserved c =
+    let h = c.in-Some.ensures.cases in
+    zeros_eight _ _ _ h.0 h.1 c.if-ne.ensures ∙ c.loop-eight.invariant

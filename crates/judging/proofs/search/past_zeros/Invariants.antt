@@ -1,12 +1,10 @@
--- `judging::search::past_zeros` meets its contract: a word that is 0 is four bytes of the stretch. Assumes nothing.
-use Prim.Native.Nat.{◌-◌}
-use mathlib.Core.Path.{◌≡◌}
-use lib.Seq.{slice}
+-- `judging::search::past_zeros` meets its contract: what is passed is zero. Assumes nothing.
+use Rattle.std.specs.Prelude.{◌≡◌, length}
 use Rattle.lists.specs.Lists.{zeros}
 use Rattle.judging.proofs.search.past_zeros.Given as goal
 
-abbrev pub invariant-loop-at : goal.invariant-loop-at
-invariant-loop-at l = zeros (slice l.from 508 l.part) ≡ zeros (slice l.at 508 l.part)
+abbrev pub invariant-loop-eight : goal.invariant-loop-eight
+invariant-loop-eight l = zeros l.rest ≡ zeros l.bytes
 
-abbrev pub decreases-loop-at : goal.decreases-loop-at
-decreases-loop-at l = 508 - l.at
+abbrev pub decreases-loop-eight : goal.decreases-loop-eight
+decreases-loop-eight l = length l.rest
