@@ -1,6 +1,7 @@
 /* anduri.h: a proved replay of requests for one shared processor, by priority or round robin.
  *
  * Link with crates/desk/out/libdesk.a, which `rt lib` makes in crates/desk (x86-64 Linux, System V calls).
+ * It needs memcpy and memset from outside, and no other name.
  *
  * A tick is one millisecond of the controller's counter; times are ticks since the log's start.
  *

@@ -1,20 +1,35 @@
 #!/bin/sh
-# Each public function that another crate can call, a method too, stands in the first cell of a row of docs/PROMISES.md, and that
-# file tells how many must-fail edits there are. Functions of a module that its crate keeps to itself (`mod`, not `pub mod`) may be left
-# out. Prints what is missing, and fails if anything is printed.
+# Each public function that another crate can call stands in the first cell of a row of docs/PROMISES.md: a method as
+# `Type::name`, and so does a trait's; a conversion as `From<A> for B`. That file tells how many must-fail edits there are.
+# Functions of a module that its crate keeps to itself (`mod`, not `pub mod`) may be left out. Prints what is missing, and
+# fails if anything is printed.
 cd "$(dirname "$0")/.." || exit 2
-names=$(
+files=$(
     for crate in crates/*; do
         for file in "$crate"/src/*.rt; do
-            grep -q "^mod $(basename "$file" .rt);" "$crate/src/lib.rt" 2>/dev/null ||
-                sed -nE 's/^(    )?pub (extern "C" )?fn ([a-z0-9_]+).*/\3/p' "$file"
+            [ "$(basename "$file")" = main.rt ] && continue
+            grep -q "^mod $(basename "$file" .rt);" "$crate/src/lib.rt" 2>/dev/null || echo "$file"
         done
-    done | sort -u
+    done
 )
+# shellcheck disable=SC2086
+names=$(awk '
+    FNR == 1 || /^}/ { type = ""; trait = "" }
+    /^impl/ {
+        head = $0; sub(/^impl(<[^>]*>)? /, "", head); sub(/ \{.*/, "", head); gsub(/&'\''[a-z]+ /, "\\&", head); gsub(/<'\''[a-z_]+>/, "", head)
+        trait = head ~ / for / ? head : ""; type = head; sub(/.* for /, "", type)
+    }
+    /^(    )?(pub )?(extern "C" )?fn / {
+        name = $0; sub(/^.*fn /, "", name); sub(/[^a-z0-9_].*/, "", name)
+        if (trait ~ /^(Try)?From</) print trait
+        else if (trait != "") print type "::" name
+        else if (/^    pub /) print type "::" name
+        else if (/^pub /) print name
+    }' $files | sort -u)
 missing=$(
-    [ "$(printf '%s\n' "$names" | wc -l)" -ge 100 ] || echo "fewer than 100 public functions were found"
-    for name in $names; do
-        grep -Eq "^\| [^|]*\`([A-Z][A-Za-z]*::)?$name\`" docs/PROMISES.md || echo "docs/PROMISES.md has no promise of $name"
+    [ "$(printf '%s\n' "$names" | wc -l)" -ge 115 ] || echo "fewer than 115 public functions were found"
+    printf '%s\n' "$names" | while IFS= read -r name; do
+        grep '^| ' docs/PROMISES.md | cut -d '|' -f 2 | grep -qF "\`$name\`" || echo "docs/PROMISES.md has no promise of $name"
     done
     edits=$(find crates -name '*.edit' | wc -l)
     programs=$(grep -l '^file: src/' crates/*/must-fail/*.edit | wc -l)

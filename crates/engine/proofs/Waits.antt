@@ -32,16 +32,16 @@ pub record Waits (start : State) (p : Setup) (c : Cursor) (q o d : List ℕ) : T
   pub sound : Sound (parts p c q o given d)
   pub passes : (task time : ℕ) → DoneNext (parts p c q o given d) task time → DoneNext start task time
 
-module _ {start : State} {p : Setup} {c : Cursor} {q o d : List ℕ} (W : Waits start p c q o d) {l : Leg}
-    (L : l ≡ leg_of p c last_clock q o) where
+module _ {start : State} {p : Setup} {c : Cursor} {q o d : List ℕ} (W : Waits start p c q o d) {limit : ℕ}
+    (pos : 0 < limit) {l : Leg} (L : l ≡ leg_of p c limit q o) where
   abbrev now : State
   now = parts p c q o W.given d
 
   abbrev ready_now : State
   ready_now = parts p l.cursor q o W.given d
 
-  waits_leads : Leads p c last_clock q o W.given d l
-  waits_leads = leads W.kept W.sound W.some (omega arith) L
+  waits_leads : Leads p c limit q o W.given d l
+  waits_leads = leads W.kept W.sound W.some pos L
 
   some : 0 < l.n
   some = leg_gets waits_leads
@@ -123,17 +123,17 @@ module _ {p : Setup} {from c : Cursor} {q o left : List ℕ} (O : Owing p from q
 
     module _ {l : Leg} (L : l ≡ leg_of p c last_clock q left) where
       pub waiting_task : l.task < 32
-      waiting_task = leg_known (waits_leads one L)
+      waiting_task = leg_known (waits_leads one (omega arith) L)
 
       pub waiting_owes : l.n ≤ at left l.task
-      waiting_owes = owes one L
+      waiting_owes = owes one (omega arith) L
 
       pub waiting_time : l.cursor.clock + l.n ≤ last_clock
-      waiting_time = waits_time one L
+      waiting_time = waits_time one (omega arith) L
 
       pub waiting_room : Room p l.cursor.used l.n
-      waiting_room = leg_sliced (waits_leads one L)
+      waiting_room = leg_sliced (waits_leads one (omega arith) L)
 
       pub waiting_less : {r : Cursor} → (l.owed ≡ l.n → ⊥) → r ≡ served_to p l.cursor l.n
           → total (set left l.task (at left l.task - l.n)) < total left
-      waiting_less ne er = waits_less one L ne er refl
+      waiting_less ne er = waits_less one (omega arith) L ne er refl

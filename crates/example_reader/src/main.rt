@@ -3,7 +3,7 @@
 #![tactic(auto)]
 
 ghost use Rattle.std.specs.Prelude.{◌<◌, IfOk, IsSome};
-ghost use Rattle.reader.specs.Reading.{Standing, rows_left};
+ghost use Rattle.reader.specs.Reading.{Standing, NextIs, rows_left};
 
 use judging::LogRefusal;
 use reader::Reader;
@@ -43,10 +43,11 @@ fn opening(to: &impl Print, log: &[u8]) -> io::Result<()> {
     }
 }
 
-// One step of a reader: the place where it stood, and what it found there.
+// One step of a reader: the place where it stood, and what it found there; the reader goes on from it.
 #[tactic(auto, using(places::proofs::Places::taken_stands))]
 fn step(to: &impl Print, reader: &mut Reader) -> io::Result<Option<Request>>
     requires { Standing reader.old }
+    ensures taken { IfOk result (λ found. NextIs reader.old found reader.new) }
     ensures stands { IfOk result (λ found. Standing reader.new) }
     ensures fewer { IfOk result (λ found. IsSome found → rows_left reader.new < rows_left reader.old) }
 {

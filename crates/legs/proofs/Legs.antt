@@ -55,8 +55,8 @@ at_once_whole : (p : Setup) (owed limit : ℕ) → is_priority p ≡ false → p
 unfolding at_once
 at_once_whole p owed limit e h = rw e (omega arith)
 
--- so the leg is the same
-leg_of_slice : (p : Setup) (c : Cursor) (limit : ℕ) (q o : List ℕ) → slice_due_lem p c limit ≡ true
+-- so a limit of a slice leads to the same leg
+pub leg_of_slice : (p : Setup) (c : Cursor) (limit : ℕ) (q o : List ℕ) → slice_due_lem p c limit ≡ true
     → leg_of p c p.slice q o ≡ leg_of p c limit q o
 unfolding leg_of
 leg_of_slice p c limit q o e =
@@ -88,7 +88,7 @@ module _ (n : ℕ) (q o : List ℕ) (l : n ≤ length q) (owing : (k : ℕ) → 
       ∙ at_replicate (32 - n) (k - n) in
       omega arith)
 
-ready_owes : {p : Setup} {c : Cursor} {q o : List ℕ} → Ready p c q o → (h : ℕ) → h < c.queued → 0 < at o (at q h)
+pub ready_owes : {p : Setup} {c : Cursor} {q o : List ℕ} → Ready p c q o → (h : ℕ) → h < c.queued → 0 < at o (at q h)
 ready_owes {p} {c} {q} {o} R =
     place_owed c.queued q o (omega (arith, R.kept.tidy.fits, R.kept.tidy.whole)) R.owing
 

@@ -21,7 +21,6 @@ use Rattle.lists.proofs.Places.{drop_take, length_zero, below_append, below_take
 use Rattle.rule.specs.Tick.{head_back}
 use Rattle.rule.specs.View.{Clear}
 use Rattle.line.specs.Places.{ring, taken_out}
-use Rattle.std.specs.List.{copy_within}
 
 -- ---- the ring
 
@@ -40,6 +39,10 @@ head_back_around h l b =
 
 pub ring_zero : (n : ℕ) (q : List ℕ) → ring 0 n q ≡ take n q
 ring_zero n q = append-nil (take n q)
+
+-- a queue that starts at place 0 is straight
+pub straight_zero : (n : ℕ) (q : List ℕ) → q ≡ ring 0 n q ++ drop n q
+straight_zero n q = sym (ap (λ (x : List ℕ). x ++ drop n q) (ring_zero n q) ∙ take-append-drop n q)
 
 pub length_ring : (h n : ℕ) (q : List ℕ) → n ≤ length q → length (ring h n q) ≡ n
 length_ring h n q b =
@@ -91,18 +94,6 @@ length_taken_out h q b =
       length-drop (h + 1) q,
     )
 
--- every entry one place down, over the first
-lowered : (x : ℕ) (t : List ℕ) → copy_within (x ∷ t) 1 (length (x ∷ t)) 0 ≡ t ++ at (x ∷ t) (length t) ∷ []
-lowered x t =
-    let k : length (x ∷ t) - 1 ≡ length t = omega arith in
-    let z : 0 + length t ≡ length t = omega arith in
-    ap (λ (i : ℕ). take i t ++ drop (0 + i) (x ∷ t)) k
-    ∙ ap₂ (λ (u v : List ℕ). u ++ v)
-    (take-length t)
-    (ap (λ (i : ℕ). drop i (x ∷ t)) z
-    ∙ drop-cons (x ∷ t) (length t) 0 (omega arith)
-    ∙ ap (λ (u : List ℕ). at (x ∷ t) (length t) ∷ u) (drop-length t))
-
 module _ (h n : ℕ) (q : List ℕ) (b : h < n) (l : n ≤ length q) where
   head_length : length (take h q) ≡ h
   head_length = length-take-le h q (omega arith)
@@ -134,26 +125,38 @@ module _ (h n : ℕ) (q : List ℕ) (b : h < n) (l : n ≤ length q) where
   ahead_length : length (take h q ++ drop (suc h) (take n q)) ≡ n - 1
   ahead_length = omega (arith, length-append (take h q) (drop (suc h) (take n q)), head_length, length-slice (suc h) n q l)
 
-  -- Those behind place h are lowered, and the last place is cleared, as those behind the queue are.
-  pub lowered_taken_out : Clear n q → (m : List ℕ)
-      → m ≡ copy_within (mid_of h (n - h) q) 1 (length (mid_of h (n - h) q)) 0
-      → set (put_mid h (n - h) q m) (n - 1) 0 ≡ taken_out h q
+  -- Those behind place h are put from it on, and the last place is cleared, as those behind the queue are.
+  pub lowered_taken_out : Clear n q → (m : List ℕ) → m ≡ mid_of (h + 1) (n - (h + 1)) q
+      → set (put_mid h (n - 1 - h) q m) (n - 1) 0 ≡ taken_out h q
   lowered_taken_out c m e =
       let a = take h q in
       let t = drop (suc h) (take n q) in
-      let y = at (at q h ∷ t) (length t) in
-      let part : mid_of h (n - h) q ≡ at q h ∷ t = sym (drop_take h n q (omega arith)) ∙ slice-cons h n q 0 b l in
-      let whole : h + (n - h) ≡ n = omega arith in
-      let moved : put_mid h (n - h) q m ≡ (a ++ t) ++ y ∷ drop n q =
+      let y = at q (n - 1) in
+      let z : suc (n - 1) ≡ n = omega arith in
+      let part : mid_of (h + 1) (n - (h + 1)) q ≡ t =
+      sym (drop_take (h + 1) n q (omega arith)) ∙ ap (λ (k : ℕ). drop k (take n q)) (add-one h) in
+      let whole : h + (n - 1 - h) ≡ n - 1 = omega arith in
+      let moved : put_mid h (n - 1 - h) q m ≡ (a ++ t) ++ y ∷ drop n q =
       ap₂ (λ (x z : List ℕ). a ++ (x ++ z))
-      (e ∙ ap (λ (x : List ℕ). copy_within x 1 (length x) 0) part ∙ lowered (at q h) t)
-      (drop-drop (n - h) h q ∙ ap (λ (k : ℕ). drop k q) whole)
-      ∙ ap (λ (x : List ℕ). a ++ x) (append_assoc t (y ∷ []) (drop n q))
+      (e ∙ part)
+      (drop-drop (n - 1 - h) h q
+      ∙ ap (λ (k : ℕ). drop k q) whole
+      ∙ drop-cons q (n - 1) 0 (omega arith)
+      ∙ ap (λ (k : ℕ). y ∷ drop k q) z)
       ∙ sym (append_assoc a t (y ∷ drop n q)) in
       ap (λ (x : List ℕ). set x (n - 1) 0) moved
       ∙ set_at (a ++ t) y (drop n q) 0 (n - 1) ahead_length
       ∙ ap₂ (λ (x z : List ℕ). x ++ z) (sym take_taken_out) (clear_behind q n c.clear ∙ sym drop_taken_out)
       ∙ take-append-drop (n - 1) (taken_out h q)
+
+  -- behind the last place none stands
+  pub last_taken_out : Clear n q → h + 1 ≡ n → set q (n - 1) 0 ≡ taken_out h q
+  last_taken_out c e =
+      let z : n - 1 - h ≡ 0 = omega arith in
+      let z' : n - (h + 1) ≡ 0 = omega arith in
+      ap (λ (x : List ℕ). set x (n - 1) 0)
+      (sym (take-append-drop h q) ∙ ap (λ (k : ℕ). take h q ++ drop k (drop h q)) (sym z))
+      ∙ lowered_taken_out c [] (ap (λ (k : ℕ). take k (drop (h + 1) q)) (sym z'))
 
   -- the ring goes on at the place that was left, or at 0 where that was the last
   pub ring_taken_out : ring (cond (ltb h (n - 1)) h 0) (n - 1) (taken_out h q)

@@ -9,10 +9,14 @@ ghost use Rattle.line.specs.Places.{ring, taken_out, Tasks, Best, Heads};
 use rule::Setup;
 
 // The queue of n tasks that starts at head in a ring is put straight: from place 0 on.
+#[tactic(auto, using(crate::proofs::Rings::straight_zero))]
 pub fn straight(queue: &mut [u8; 32], head: usize, n: usize)
     requires { (head ≤ n) × (n ≤ 32) }
     ensures { queue.new ≡ ring head n queue.old ++ drop n queue.old }
 {
+    if head == 0 {
+        return; // it is straight
+    }
     let before = *queue;
     // Two copies, since `rotate_left` by more than one place clears room of its own, which takes 2,500 instructions.
     queue[..n].copy_within(head.., 0);
@@ -25,8 +29,13 @@ pub fn take_out(queue: &mut [u8; 32], place: usize, n: usize)
     requires clear { Clear n queue.old }
     ensures { queue.new ≡ taken_out place queue.old }
 {
-    queue[place..n].copy_within(1.., 0);
-    queue[n - 1] = 0;
+    let last = n - 1;
+    if place < last {
+        // From a copy: a move within the array would call `memmove`, which the library needs nowhere else.
+        let before = *queue;
+        queue[place..last].copy_from_slice(&before[place + 1..n]);
+    }
+    queue[last] = 0;
 }
 
 // Of two tasks and their priorities, whether the second task goes before the first. As an order of pairs the tasks' numbers

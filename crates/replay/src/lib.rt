@@ -53,6 +53,8 @@ pub fn request(run: Run, asked: Request) -> Result<Run, CallRefusal>
     ensures { Promised run (request asked.time asked.task asked.amount)
         (call_number result) (result_unwrap_or result run) }
 {
+    // Judged before the run is taken apart too: what is refused by 10 to 13 costs no copy of it.
+    requests::early_refusal(run.setup.count, run.clock, asked)?;
     let mut live = Live::of(&run);
     live.ask(asked)?;
     Ok(live.to_run())

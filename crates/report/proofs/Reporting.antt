@@ -85,14 +85,14 @@ module _ (p : Setup) (ts ks ms : List ℕ) (tabled : Tabled p (length ts) (lengt
     -- ---- a finished table
 
     module _ (end : ℕ) (e : ended end ≡ table_told r) where
-      dones : List ℕ
+      pub dones : List ℕ
       dones = (ends o (e ∙ answered.answer)).dones
 
-      outcome : o ≡ finished dones end
+      pub outcome : o ≡ finished dones end
       unfolding dones
       outcome = (ends o (e ∙ answered.answer)).outcome
 
-      column : after ≡ dones ++ drop (length dones) before
+      pub column : after ≡ dones ++ drop (length dones) before
       unfolding written
       column = answered.column ∙ ap (λ (x : Outcome). written x before) outcome
 

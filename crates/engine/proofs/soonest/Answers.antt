@@ -13,7 +13,7 @@ overflow_add-result c =
     omega (arith, waiting_time c.requires.owing c.loop-left.invariant c.next_leg-leg.ensures)
 
 pub returns-then-leg : goal.returns-then-leg
-returns-then-leg c = λ g d S. waits_end (c.loop-left.invariant g d S) c.next_leg-leg.ensures c.if-leg.true
+returns-then-leg c = λ g d S. waits_end (c.loop-left.invariant g d S) (omega arith) c.next_leg-leg.ensures c.if-leg.true
 
 pub bounds-left-leg : goal.bounds-left-leg
 bounds-left-leg c = waiting_task c.requires.owing c.loop-left.invariant c.next_leg-leg.ensures
@@ -39,4 +39,4 @@ loop-left-smaller c =
 
 pub loop-left-preserved : goal.loop-left-preserved
 loop-left-preserved c =
-    λ g d S. waits_step (c.loop-left.invariant g d S) c.next_leg-leg.ensures c.if-leg.false c.served-c.ensures refl
+    λ g d S. waits_step (c.loop-left.invariant g d S) (omega arith) c.next_leg-leg.ensures c.if-leg.false c.served-c.ensures refl

@@ -10,8 +10,13 @@ use Rattle.laws.proofs.Made.{made_sound}
 use Rattle.requests.specs.declared.CallRefusal.{CallRefusal}
 use Rattle.engine.specs.Promises.{after_ask}
 use Rattle.engine.proofs.Requests.{asked_taken}
-use Rattle.replay.proofs.Calling.{shows_then, refused_promised, accepted_promised}
+use Rattle.replay.proofs.Calling.{shows_then, early_promised, refused_promised, accepted_promised}
 use Rattle.replay.proofs.request.Goals as goal
+
+pub returns-in_err-early_refusal : goal.returns-in_err-early_refusal
+returns-in_err-early_refusal c =
+    let p = err_from_is_err_and c.from_residual.result c.from_residual.ensures.1 in
+    early_promised (p.1 ∙ ap (λ (e : CallRefusal). Err e) p.2) c.in_err-early_refusal.ensures c.requires.tidy
 
 pub of-live-requires-clause-sound : goal.of-live-requires-clause-sound
 of-live-requires-clause-sound c = made_sound _ c.requires.made
@@ -20,7 +25,7 @@ pub returns-in_err-ask : goal.returns-in_err-ask
 returns-in_err-ask c =
     let run = c.args.run in
     let asked = c.args.asked in
-    let p = err_from_is_err_and c.from_residual.result c.from_residual.ensures.1 in
+    let p = err_from_is_err_and c.from_residual-in_err-ask.result c.from_residual-in_err-ask.ensures.1 in
     let number = ap (λ (s : State). request_refusal s asked.time asked.task asked.amount) c.of-live.ensures in
     refused_promised (request asked.time asked.task asked.amount) (p.1 ∙ ap (λ (e : CallRefusal). Err e) p.2)
     (c.in_err-ask.ensures.answer ∙ number ∙ sym (refusal_request (view run) asked.time asked.task asked.amount))
